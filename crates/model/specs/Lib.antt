@@ -1,0 +1,9 @@
+pub mod State
+pub mod Policy
+pub mod Sound
+pub mod Event
+pub mod Step
+pub mod Run
+pub mod Doors
+pub mod Answers
+pub mod Typed
