@@ -24,8 +24,10 @@ pub fn budget(share: Percent, window: Ticks, tick: Cycles) -> Cycles
     requires { ⌜ (share .0 ≤ 100) × (window .0 ≤ 400) × (tick .0 ≤ 999900) × (tick .0 % 100 ≡ 0) ⌝ }
     ensures { λ r. ⌜ r .0 ≡ budgetOf (share .0) (window .0) (tick .0) ⌝ }
 {
+    let percents = share.0 * window.0;
     let hundredth = tick.0 / 100;
-    Cycles(share.0 * window.0 * hundredth)
+    let cycles = percents * hundredth;
+    Cycles(cycles)
 }
 
 // The cycles from an older reading of the 32-bit counter to a newer one. The counter wraps, and the subtraction with it.
