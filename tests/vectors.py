@@ -1,0 +1,105 @@
+#!/usr/bin/env python3
+"""Has the checker compute the model's definitions on runs of another scheduler.
+
+tests/vectors/NNN has a sheet (shares.txt), events (events.bin) and the lines that a scheduler which shares nothing with the model printed
+for them (expected.txt). For each run this writes a theorem, that the definitions give just these lines, proved by computation alone, into a
+crate of its own in a temporary copy of the repository, and has the checker prove that crate.
+
+    tests/vectors.py [NNN ..]    all runs, or the named ones
+"""
+import shutil
+import subprocess
+import sys
+import tempfile
+from pathlib import Path
+
+ROOT = Path(__file__).resolve().parent.parent
+VECTORS = ROOT / "tests/vectors"
+
+# what the theorems have to look through: every definition of these files that is not an abbreviation
+OPENED = [
+    ("lists", "Lists"), ("units", "Units"), ("sheet", "Settings"), ("sheet", "Records"), ("sheet", "Sheet"),
+    ("model", "State"), ("model", "Policy"), ("model", "Sound"), ("model", "Event"), ("model", "Step"), ("model", "Run"),
+    ("model", "Answers"),
+]
+
+HEAD = """-- Written by tests/vectors.py.
+use Prim.Native.Nat.{ℕ}
+use mathlib.Core.Path.{_≡_, refl}
+use mathlib.Core.Bool.{cond}
+use mathlib.Core.List.{List, [], _∷_, _++_, map}
+use lib.Dec.{eqb}
+use Rattle.model.specs.Run.{Entry, fresh, run}
+use Rattle.model.specs.Answers.{refusalLine, answerLine, textOf}
+use Rattle.sheet.specs.Sheet.{settingsOf, refusedSheet}
+"""
+
+LINES = """
+-- what the desk program prints for a sheet and a list of events
+unfoldable pub printed : List ℕ → List (List ℕ) → List (List ℕ)
+printed sheet events =
+    cond (eqb (refusedSheet sheet) 0)
+    (map (λ e. textOf (answerLine (e .answer))) (run (fresh (settingsOf sheet) []) events))
+    (textOf (refusalLine (refusedSheet sheet)) ∷ [])
+"""
+
+
+def bytes_list(data):
+    return " ∷ ".join([str(b) for b in data] + ["[]"])
+
+
+def lists(parts):
+    return " ∷ ".join([f"({bytes_list(p)})" for p in parts] + ["[]"])
+
+
+def definitions(crate, file):
+    """The names that are `unfoldable pub` in a file of definitions."""
+    text = (ROOT / "crates" / crate / "specs" / f"{file}.antt").read_text()
+    return [line.split()[2] for line in text.splitlines() if line.startswith("unfoldable pub")]
+
+
+def theorem(name):
+    folder = VECTORS / name
+    sheet = (folder / "shares.txt").read_bytes() if (folder / "shares.txt").exists() else b""
+    events = (folder / "events.bin").read_bytes()
+    expected = (folder / "expected.txt").read_bytes()
+    assert len(expected) % 12 == 0, name
+    records = [events[i:i + 12] for i in range(0, len(events), 12)]
+    lines = [expected[i:i + 12] for i in range(0, len(expected), 12)]
+    opened = " ".join(f"{file}.{d}" for crate, file in OPENED for d in definitions(crate, file))
+    return f"""
+v{name} : printed ({bytes_list(sheet)}) ({lists(records)}) ≡ {lists(lines)}
+unfolding printed {opened}
+v{name} = refl
+"""
+
+
+def main():
+    names = sys.argv[1:] or sorted(p.name for p in VECTORS.iterdir() if p.is_dir())
+    with tempfile.TemporaryDirectory() as folder:
+        copy = Path(folder)
+        shutil.copytree(ROOT / "crates", copy / "crates")
+        if (ROOT / "target").exists():
+            for part in ("rlib", "stamp", "inc", "log"):
+                if (ROOT / "target" / part).exists():
+                    shutil.copytree(ROOT / "target" / part, copy / "target" / part)
+        listed = (ROOT / "crates.txt").read_text()
+        (copy / "crates.txt").write_text(listed + "\nvectors: lists refusals units sheet model\n")
+        crate = copy / "crates/vectors"
+        (crate / "src").mkdir(parents=True)
+        (crate / "specs").mkdir()
+        (crate / "src/lib.rt").write_text("// No code: runs of another scheduler, computed.\n")
+        (crate / "specs/Lib.antt").write_text("pub mod Runs\n")
+        opens = "".join(f"use Rattle.{crate_}.specs.{file}\n" for crate_, file in OPENED)
+        (crate / "specs/Runs.antt").write_text(HEAD + opens + LINES + "".join(theorem(n) for n in names))
+        done = subprocess.run(["rt", "check", "vectors"], cwd=copy, stdout=subprocess.PIPE, stderr=subprocess.STDOUT, text=True)
+        if done.returncode != 0:
+            for line in done.stdout.splitlines():
+                if "error" in line or "NOT PROVED" in line:
+                    print(line[:600])
+            sys.exit("vectors: the model disagrees with a run")
+    print(f"vectors: the model computes the {len(names)} runs as the other scheduler printed them")
+
+
+if __name__ == "__main__":
+    main()
