@@ -1,3 +1,5 @@
 pub mod Tests
 pub mod Lists
 pub mod Totals
+pub mod Parts
+pub mod RunningSums
