@@ -1,5 +1,11 @@
 pub mod Tests
 pub mod Lists
 pub mod Totals
-pub mod Parts
+pub mod ListSums
 pub mod RunningSums
+pub mod Finding
+pub mod Indexing
+pub mod Tables
+pub mod Parts
+pub mod Prefixes
+pub mod Scans

@@ -7,3 +7,4 @@ pub mod Run
 pub mod Doors
 pub mod Answers
 pub mod Typed
+pub mod Facts

@@ -1,10 +1,13 @@
 -- What the settings of a share sheet mean: their limits, and the window budgets.
-use Prim.Native.Nat.{ℕ, _%_}
+use mathlib.Core.Path.{_≡_}
+use Prim.Native.Nat.{ℕ, _%_, _≤_}
 use mathlib.Core.Bool.{Bool, not, cond, _&&_}
+use mathlib.Core.List.{List}
 use lib.ListN.{getD, replicate}
 use lib.Dec.{leb, eqb}
 use Rattle.lists.specs.Lists.{total}
 use Rattle.units.specs.Units.{budgetOf}
+use Rattle.units.specs.declared.Percent.{Percent}
 use Rattle.sheet.specs.declared.Settings.{Settings}
 
 -- the paper's W, in ticks, and C, in cycles a tick
@@ -15,8 +18,11 @@ abbrev pub C : Settings → ℕ
 C c = c .tick .0
 
 -- the share of partition p, in percent
+abbrev pub percentAt : List Percent → ℕ → ℕ
+percentAt shares p = getD shares p (record { 0 = 0 }) .0
+
 abbrev pub share : Settings → ℕ → ℕ
-share c p = getD (c .shares) p (record { 0 = 0 }) .0
+share c p = percentAt (c .shares) p
 
 -- "Window budget of a partition: share × W × C / 100", in cycles
 unfoldable pub budget : Settings → ℕ → ℕ
@@ -47,14 +53,32 @@ unfoldable pub withinLimits : Settings → Bool
 withinLimits c =
     windowFits (W c) && tickFits (C c) && policyAndCoreFit (c .policy) (c .core) && countFits (c .count) && sharesFit c
 
--- the number by which settings outside the sheet's limits are refused, the first that fits, or 0
+-- the same as facts, which other definitions and laws cite
+pub record Limits (c : Settings) : Type 0 where
+  pub window-low : 2 ≤ W c
+  pub window-high : W c ≤ 400
+  pub whole : C c % 100 ≡ 0
+  pub tick-low : 100 ≤ C c
+  pub tick-high : C c ≤ 999900
+  pub policy : c .policy ≤ 1
+  pub core : c .core ≤ 7
+  pub count-low : 1 ≤ c .count
+  pub count-high : c .count ≤ 16
+  pub shares : total (c .count) (share c) ≡ 100
+
+-- the number by which count, W, C, P, M and the sum of the shares are refused if they are outside the sheet's limits: the first that
+-- fits, or 0
+unfoldable pub refusedNumbers : (count window tick policy core sum : ℕ) → ℕ
+refusedNumbers count window tick policy core sum =
+    cond (not (countFits count)) 1
+    (cond (not (windowFits window)) 3
+    (cond (not (tickFits tick)) 4
+    (cond (not (policyAndCoreFit policy core)) 5
+    (cond (not (eqb sum 100)) 6 0))))
+
+-- the number by which settings are refused
 unfoldable pub refusedSettings : Settings → ℕ
-refusedSettings c =
-    cond (not (countFits (c .count))) 1
-    (cond (not (windowFits (W c))) 3
-    (cond (not (tickFits (C c))) 4
-    (cond (not (policyAndCoreFit (c .policy) (c .core))) 5
-    (cond (not (sharesFit c)) 6 0))))
+refusedSettings c = refusedNumbers (c .count) (W c) (C c) (c .policy) (c .core) (total (c .count) (share c))
 
 -- the zeros that are returned beside a refused sheet's number
 abbrev pub zeroSettings : Settings

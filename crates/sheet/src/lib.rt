@@ -1,8 +1,19 @@
 // The share sheet of document 01: read into settings, and written back byte for byte.
+ghost use mathlib.Core.Path.{_≡_};
+ghost use Prim.Native.Nat.{_<_, _≤_};
+ghost use lib.ListN.{getD};
+ghost use Rattle.refusals.specs.Refusals.{outcomeOf};
+ghost use Rattle.sheet.specs.Settings.{refusedSettings, zeroSettings};
+ghost use Rattle.sheet.specs.Sheet.{sharesBy, settingsIn, unlessRefused, refusedWrite, ReadAnswer, WriteAnswer};
 use refusals::Outcome;
+use refusals::Refusal;
 use units::Cycles;
 use units::Percent;
 use units::Ticks;
+
+mod record; // one record
+mod order; // all records, in their order
+mod numbers; // the limits of their numbers
 
 // What a share sheet says. Partitions are numbered from 0, and 0 is System. Policy, core and count are plain numbers, so that settings
 // outside their limits can be given, and are refused.
@@ -37,4 +48,140 @@ pub struct Reading {
 pub struct Writing {
     pub outcome: Outcome,
     pub length: usize,
+}
+
+// ---- the limits
+
+// The first limit that settings break. Nobody vouches for them: a count above 16 is refused before the shares are added up.
+pub fn limits(settings: Settings) -> Outcome
+    ensures { λ r. ⌜ outcomeOf r ≡ refusedSettings settings ⌝ }
+{
+    let count = settings.count as usize;
+    if 16 < count {
+        return Outcome::Refused(Refusal::Count);
+    }
+    let shares = settings.shares;
+    let sum = numbers::total_share(shares, count);
+    numbers::limits_of(
+        count,
+        settings.window.0,
+        settings.tick.0,
+        settings.policy as u32,
+        settings.core as u32,
+        sum,
+    )
+}
+
+// ---- reading
+
+// The shares among the values of the records.
+fn shares_from(values: [u32; 20]) -> [Percent; 16]
+    ensures { λ r. ⌜ r ≡ sharesBy (λ i. getD values i 0) ⌝ }
+{
+    let mut shares = [Percent(0); 16];
+    let mut p = 0;
+    while p < 16 {
+        shares[p] = Percent(values[4 + p]);
+        p += 1;
+    }
+    shares
+}
+
+// Zeros beside the refusal of a sheet.
+fn zeros_beside(refusal: Refusal) -> Reading
+    ensures { λ r. ⌜ (r .outcome ≡ Outcome.Refused refusal) × (r .settings ≡ zeroSettings) ⌝ }
+{
+    Reading {
+        outcome: Outcome::Refused(refusal),
+        settings: Settings {
+            window: Ticks(0),
+            tick: Cycles(0),
+            policy: 0,
+            core: 0,
+            count: 0,
+            shares: [Percent(0); 16],
+        },
+    }
+}
+
+// What n records of these values say. The limits are tested before policy, core and count are put into bytes.
+fn settings_from(values: [u32; 20], n: usize) -> Reading
+    requires { ⌜ (4 < n) × (n ≤ 20) ⌝ }
+    ensures { λ r. ⌜ (outcomeOf (r .outcome) ≡ refusedSettings (settingsIn values n))
+        × (r .settings ≡ unlessRefused (refusedSettings (settingsIn values n)) (settingsIn values n)) ⌝ }
+{
+    let count = n - 4;
+    let shares = shares_from(values);
+    let sum = numbers::total_share(shares, count);
+    let outcome = numbers::limits_of(count, values[0], values[1], values[2], values[3], sum);
+    match outcome {
+        Outcome::Refused(refusal) => zeros_beside(refusal),
+        Outcome::Accepted => {
+            let settings = Settings {
+                window: Ticks(values[0]),
+                tick: Cycles(values[1]),
+                policy: values[2] as u8,
+                core: values[3] as u8,
+                count: count as u8,
+                shares: shares,
+            };
+            Reading {
+                outcome: outcome,
+                settings: settings,
+            }
+        }
+    }
+}
+
+// The settings that the bytes of a sheet say. The form of all records is tested before any limit.
+pub fn read_sheet(bytes: &[u8]) -> Reading
+    ensures { λ r. ⌜ ReadAnswer (now (bytes .entry)) r ⌝ }
+{
+    if !order::whole_records(bytes) {
+        return zeros_beside(Refusal::Count);
+    }
+    let read = order::read_values(bytes);
+    let outcome = read.outcome;
+    match outcome {
+        Outcome::Refused(refusal) => zeros_beside(refusal),
+        Outcome::Accepted => {
+            let values = read.values;
+            settings_from(values, bytes.len() / 12)
+        }
+    }
+}
+
+// ---- writing
+
+// Why the settings cannot be written into so many bytes: their limits first, then the room.
+fn refused_write(settings: Settings, room: usize) -> Outcome
+    ensures { λ r. ⌜ outcomeOf r ≡ refusedWrite settings room ⌝ }
+{
+    let outcome = limits(settings);
+    let Outcome::Accepted = outcome else {
+        return outcome;
+    };
+    let length = 12 * (4 + settings.count as usize);
+    if room < length {
+        return Outcome::Refused(Refusal::Buffer);
+    }
+    Outcome::Accepted
+}
+
+// Writes the sheet that says the settings at the start of the buffer, and nothing after it. A refusal writes nothing.
+pub fn write_sheet(settings: Settings, buffer: &mut [u8]) -> Writing
+    ensures { λ r. ⌜ WriteAnswer settings (now (buffer .entry)) r (now (buffer .exit)) ⌝ }
+{
+    let outcome = refused_write(settings, buffer.len());
+    let Outcome::Accepted = outcome else {
+        return Writing {
+            outcome: outcome,
+            length: 0,
+        };
+    };
+    order::write_records(settings, buffer);
+    Writing {
+        outcome: outcome,
+        length: 12 * (4 + settings.count as usize),
+    }
 }

@@ -1,0 +1,32 @@
+use Rattle.model.specs.Event.{wrongThread, namesPlace}
+use Rattle.events.specs.Kinds.{usesOf}
+use Rattle.events.proofs.Laws.{same-flags}
+use borrow.Author.Needs.{needs}
+use Rattle.events.proofs.refuse.wrong_thread.Statement.{statement}
+use Rattle.events.proofs.refuse.wrong_thread.Tie as tie
+
+shared-slice-read-uses-of : tie.Need-shared-slice-read-uses-of
+shared-slice-read-uses-of c = search needs
+
+uses-of-requires : tie.Need-uses-of-requires
+uses-of-requires c κs = search needs
+
+shared-slice-read-t : tie.Need-shared-slice-read-t
+shared-slice-read-t c = search needs
+
+thread-at-requires : tie.Need-thread-at-requires
+thread-at-requires c κs = search needs
+
+returns : tie.Need-returns
+unfolding wrongThread usesOf namesPlace
+returns c = rw (same-flags, c .before .before .before .before .before .uses-of .ensures, c .before .before .before .thread-at .ensures)
+
+pub wrong-thread-spec : {M : Type 1} → statement M
+wrong-thread-spec =
+    tie.close
+    (tie.spec
+    shared-slice-read-uses-of
+    uses-of-requires
+    shared-slice-read-t
+    thread-at-requires
+    returns)

@@ -1,0 +1,104 @@
+-- The decision: idle exactly where it must be, otherwise the one partition and thread that the rules give.
+use mathlib.Core.Path.{_≡_, refl, sym, subst, _∙_}
+use Prim.Native.Nat.{ℕ, _≤_, _<_}
+use mathlib.Core.Bool.{Bool, true, false, _&&_, _||_}
+use mathlib.Core.Option.{Option, none, some}
+use mathlib.Core.List.{List, [], _∷_, _++_}
+use lib.Dec.{eqb}
+use borrow.Author.Tests.{eq-eqb}
+use native.Mathlib.Omega.{arith}
+use native.Mathlib.Decide.{decLt}
+use Rattle.lists.specs.Lists.{any, member}
+use Rattle.lists.proofs.Tests.{clash, both}
+use Rattle.model.specs.State.{thread, queueOf}
+use Rattle.model.specs.Policy.{competing, hasBudget, winner}
+use Rattle.model.specs.Facts.{Settled}
+use Rattle.model.specs.declared.State.{State}
+use Rattle.model.proofs.Meaning.{sound-of}
+use Rattle.guarantee.specs.Promises.{Idles, Won, FirstOf, mayRun, Choice, Chooses, ChoosesOne, BudgetFirst}
+use Rattle.guarantee.proofs.Winner.{winner-none, winner-has}
+use Rattle.guarantee.proofs.Chosen.{first-member}
+use Rattle.guarantee.proofs.Decision.{allowed-competes, decide-picks, idle-exactly}
+
+pub idles : Idles
+idles s h e = let k : Settled s h = sound-of s h e .settled in idle-exactly s h k
+
+-- one that competes makes a winner
+busy : (s : State) (h : List ℕ) → Settled s h → (p : ℕ) → p < s .settings .count → competing s p ≡ true → (w : ℕ) × (winner s ≡ some w)
+busy s h k p i c = go (winner s) refl
+  where
+    go : (o : Option ℕ) → winner s ≡ o → (w : ℕ) × (winner s ≡ some w)
+    go none q = clash c (winner-none s q p i)
+    go (some w) q = (w, q)
+
+pub chooses : Chooses
+chooses s h e t a =
+    let k : Settled s h = sound-of s h e .settled in
+    let (i, c) = allowed-competes s h k t a in
+    let (w, q) = busy s h k (thread s t .partition) i c in
+    decide-picks s h k w q .busy
+
+won-one : (s : State) (n w u : ℕ) → Won s n w → Won s n u → w < u → ⊥
+won-one s n w u a b h = clash (b .lowest w h (a .competes)) (a .unbeaten u (b .inside) (b .competes))
+
+module _ (test : ℕ → Bool) (t u : ℕ) (t-holds : test t ≡ true) (u-holds : test u ≡ true) (l m : List ℕ) where
+  Free : List ℕ → Type 0
+  Free x = (v : ℕ) → member v x ≡ true → test v ≡ false
+
+  free-head : (x : ℕ) (xs : List ℕ) → Free (x ∷ xs) → test x ≡ false
+  unfolding Free any
+  free-head x xs f = f x (rw (eq-eqb x x refl))
+
+  free-tail : (x : ℕ) (xs : List ℕ) → Free (x ∷ xs) → Free xs
+  unfolding Free any
+  free-tail x xs f v k = f v (go (eqb v x))
+    where
+      go : (z : Bool) → (z || member v xs) ≡ true
+      go true = refl
+      go false = k
+
+  first-one : (x : List ℕ) → Free x → (y : List ℕ) → Free y → x ++ (t ∷ l) ≡ y ++ (u ∷ m) → t ≡ u
+  first-one [] f [] g e = cc
+  first-one [] f (y ∷ ys) g e = let w : t ≡ y = cc in clash t-holds (rw w (free-head y ys g))
+  first-one (x ∷ xs) f [] g e = let w : u ≡ x = cc in clash u-holds (rw w (free-head x xs f))
+  first-one (x ∷ xs) f (y ∷ ys) g e = let w : xs ++ (t ∷ l) ≡ ys ++ (u ∷ m) = cc in first-one xs (free-tail x xs f) ys (free-tail y ys g) w
+
+-- two choices have the same priority, so they are the first of the same test
+choice-one : (s : State) (p t u : ℕ) → Choice s p t → Choice s p u → t ≡ u
+unfolding Free
+choice-one s p t u a b =
+    first-one (λ v. mayRun s p v && eqb (thread s v .priority) (thread s t .priority)) t u (a .place .holds) (b′ .holds) (a .place .later)
+    (b′ .later)
+    (a .place .earlier) (a .place .not-earlier) (b′ .earlier) (b′ .not-earlier) (sym (a .place .split) ∙ b′ .split)
+  where
+    le : (t u : ℕ) → Choice s p t → Choice s p u → thread s t .priority ≤ thread s u .priority
+    le t u a b = b .top t (first-member _ (queueOf s) t (a .place)) (both (mayRun s p t) _ (a .place .holds) .0)
+
+    b′ : FirstOf (λ v. mayRun s p v && eqb (thread s v .priority) (thread s t .priority)) (queueOf s) u
+    b′ =
+        let same : thread s u .priority ≡ thread s t .priority = omega (arith, le t u a b, le u t b a) in
+        subst (λ (n : ℕ). FirstOf (λ v. mayRun s p v && eqb (thread s v .priority) n) (queueOf s) u) same (b .place)
+
+pub chooses-one : ChoosesOne
+chooses-one s d e a b = λ i. record { mode = modes i; partition = parts i; thread = threads i }
+  where
+    modes : d .mode ≡ e .mode
+    modes = a .mode-is ∙ sym (b .mode-is)
+
+    parts : d .partition ≡ e .partition
+    parts = go (decLt (d .partition) (e .partition)) (decLt (e .partition) (d .partition))
+      where
+        go : Dec (d .partition < e .partition) → Dec (e .partition < d .partition) → d .partition ≡ e .partition
+        go (yes h) z = absurd (won-one s (s .settings .count) (d .partition) (e .partition) (a .won) (b .won) h)
+        go (no h) (yes k) = absurd (won-one s (s .settings .count) (e .partition) (d .partition) (b .won) (a .won) k)
+        go (no h) (no k) = omega arith
+
+    threads : d .thread ≡ e .thread
+    threads = choice-one s (e .partition) (d .thread) (e .thread) (subst (λ (p : ℕ). Choice s p (d .thread)) parts (a .choice)) (b .choice)
+
+pub budget-first : BudgetFirst
+budget-first s h e p i c y =
+    let k : Settled s h = sound-of s h e .settled in
+    let (w, q) = busy s h k p i c in
+    let d = decide-picks s h k w q in
+    (d .busy .mode-busy, subst (λ (x : ℕ). hasBudget s x ≡ true) (sym (d .partition)) (winner-has s p w i c y q))

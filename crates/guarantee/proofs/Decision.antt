@@ -1,0 +1,104 @@
+-- What the decision is, in a state that is sound but for its running thread.
+use mathlib.Core.Logic.{_≢_}
+use mathlib.Core.Path.{_≡_, refl, ap, _∙_}
+use Prim.Native.Nat.{ℕ, _<_}
+use mathlib.Core.Bool.{Bool, true, false, cond}
+use mathlib.Core.Option.{Option, none, some}
+use mathlib.Core.List.{List}
+use native.Mathlib.Omega.{arith}
+use Rattle.lists.specs.Lists.{any}
+use Rattle.lists.proofs.Tests.{clash}
+use Rattle.lists.proofs.Lists.{below-any}
+use Rattle.model.specs.State.{thread, queueOf, idle}
+use Rattle.model.specs.Policy
+use Rattle.model.specs.Policy.{Decided, competing, mode, winner, chosen, decideFor, decide}
+use Rattle.model.specs.declared.State.{State}
+use Rattle.model.specs.Facts.{Settled, Runs}
+use Rattle.guarantee.specs.Promises.{Allowed, NoneAllowed, IdleExactly, idleDecision, Won, Busy}
+use Rattle.guarantee.proofs.Winner.{winner-won, winner-none}
+use Rattle.guarantee.proofs.Chosen.{competes, chosen-is, chosen-allowed}
+
+module _ (s : State) (h : List ℕ) (k : Settled s h) where
+  -- an allowed thread's partition competes
+  pub allowed-competes : (t : ℕ) → Allowed s t → (thread s t .partition < s .settings .count) × (competing s (thread s t .partition) ≡ true)
+  allowed-competes t a =
+      let b : t < 64 = k .queue .inside t (a .queued) in
+      let r : thread s t .ready ≡ true = k .queue .ready t b ∙ a .queued in
+      (k .proper t b .partition (k .queue .exists t b r), competes s (thread s t .partition) t a refl)
+
+  -- and a partition that competes has one
+  pub competes-allowed : (p : ℕ) → competing s p ≡ true → Allowed s (chosen s p)
+  competes-allowed p c = chosen-allowed s p c .0
+
+  mode-busy : (p : ℕ) → p < s .settings .count → competing s p ≡ true → mode s ≢ Policy.idleMode
+  unfolding mode
+  mode-busy p b c = rw (below-any (competing s) (s .settings .count) p b c) (go (any _ _) (any _ _))
+    where
+      go : (x y : Bool) → cond x Policy.freeTime (cond y Policy.underload Policy.atLimit) ≢ Policy.idleMode
+      go true y = omega arith
+      go false true = omega arith
+      go false false = omega arith
+
+  -- a decision for partition w
+  pub record Picks (w : ℕ) (d : Decided) : Type 0 where
+    pub busy : Busy s d
+    pub partition : d .partition ≡ w
+    pub allowed : Allowed s (d .thread)
+    pub thread-partition : thread s (d .thread) .partition ≡ w
+    pub inside : d .thread < 64
+
+  picks : (w : ℕ) → winner s ≡ some w → Picks w (decideFor s (some w))
+  unfolding decideFor
+  picks w e =
+      let won : Won s (s .settings .count) w = winner-won s w e in
+      let (a, p) = chosen-allowed s w (won .competes) in
+      record {
+        busy =
+            record {
+              mode-is = refl;
+              mode-busy = mode-busy w (won .inside) (won .competes);
+              won = won;
+              choice =
+                  chosen-is s w (won .competes);
+            };
+        partition = refl;
+        allowed = a;
+        thread-partition = p;
+        inside = k .queue .inside (chosen s w) (a .queued);
+      }
+
+  -- the two cases
+  pub decide-picks : (w : ℕ) → winner s ≡ some w → Picks w (decide s)
+  unfolding decide
+  decide-picks w e = rw e (picks w e)
+
+  pub decide-idle : winner s ≡ none → decide s ≡ idleDecision
+  unfolding decide decideFor
+  decide-idle e = rw e
+
+  pub none-allowed : winner s ≡ none → NoneAllowed s
+  none-allowed e t a = let (b, c) = allowed-competes t a in clash c (winner-none s e (thread s t .partition) b)
+
+  -- idle, mode 0, partition 0 and thread 255, exactly where no queued thread is allowed on this core
+  pub idle-exactly : IdleExactly s
+  idle-exactly = go (winner s) refl
+    where
+      go : (o : Option ℕ) → winner s ≡ o → IdleExactly s
+      go none e = record { when = λ f. decide-idle e; by-mode = λ z. none-allowed e; by-thread = λ z. none-allowed e }
+      go (some w) e =
+          let d : Picks w (decide s) = decide-picks w e in
+          record {
+            when = λ f. absurd (f (decide s .thread) (d .allowed));
+            by-mode = λ z. absurd (d .busy .mode-busy z);
+            by-thread = λ z. let x : ⊥ = omega (arith, d .inside) in absurd x;
+          }
+
+  -- so the decision's thread may be the running one
+  pub decide-runs : Runs (s .settings) (s .threads) (queueOf s) (decide s .thread)
+  decide-runs = go (winner s) refl
+    where
+      go : (o : Option ℕ) → winner s ≡ o → Runs (s .settings) (s .threads) (queueOf s) (decide s .thread)
+      go none e =
+          let z : decide s .thread ≡ idle = ap (λ (d : Decided). d .thread) (decide-idle e) in
+          record { queued = λ n. absurd (n z); allowed = λ n. absurd (n z) }
+      go (some w) e = let d : Picks w (decide s) = decide-picks w e in record { queued = λ n. d .allowed .queued; allowed = λ n. d .allowed .allowed }

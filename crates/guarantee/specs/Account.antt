@@ -1,0 +1,166 @@
+-- DEMAND 2, the account: what the sheet's settings and the accepted events alone say of the threads, the ready queue, the charges and the
+-- decision. The accepted events stand newest first; no state, history or answer goes into a definition, only into the statements at the end.
+use Prim.Native.Nat.{ℕ, suc, _+_, _-_, _*_, _%_, _<_}
+use mathlib.Core.Path.{_≡_}
+use mathlib.Core.Bool.{true, false, not, cond, _&&_, _||_}
+use mathlib.Core.List.{List, [], _∷_, _++_, map, reverse}
+use lib.ListN.{length, getD, take, drop, replicate}
+use lib.Dec.{eqb}
+use Rattle.lists.specs.Lists.{below, sum, keep}
+use Rattle.units.specs.Units.{elapsedOf}
+use Rattle.sheet.specs.Settings.{W}
+use Rattle.sheet.specs.Sheet.{settingsOf}
+use Rattle.sheet.specs.declared.Settings.{Settings}
+use Rattle.model.specs.State.{absent, thread, queueOf, idle, used}
+use Rattle.model.specs.Policy.{Decided, idleMode, decide}
+use Rattle.model.specs.Event
+use Rattle.model.specs.Event.{kindOf, threadOf, partitionOf, priorityOf, maskOf, stampOf}
+use Rattle.model.specs.Step.{Saved, cycles, leaves, withReady, withPriority, created}
+use Rattle.model.specs.Run.{run, fresh, after}
+use Rattle.model.specs.Doors.{refusedStart}
+use Rattle.model.specs.declared.Thread.{Thread}
+use Rattle.model.specs.declared.State.{State}
+use Rattle.guarantee.specs.Demand3.{accepted}
+use Rattle.guarantee.specs.Ledger.{addFirst, acceptedOf}
+
+-- ---- the threads and the ready queue
+
+-- an accepted event on the record of the thread that it names
+unfoldable pub recordBy : List ℕ → Thread → Thread
+recordBy e r =
+    cond (eqb (kindOf e) Event.create) (created (partitionOf e) (priorityOf e) (maskOf e))
+    (cond (eqb (kindOf e) Event.ready) (withReady r true)
+    (cond (eqb (kindOf e) Event.block) (withReady r false)
+    (cond (eqb (kindOf e) Event.setPriority) (withPriority r (priorityOf e))
+    (cond (eqb (kindOf e) Event.end) absent
+    r))))
+
+-- the record of thread t
+unfoldable pub recordFrom : List (List ℕ) → ℕ → Thread
+recordFrom [] t = absent
+recordFrom (e ∷ es) t = cond (eqb (threadOf e) t) (recordBy e (recordFrom es t)) (recordFrom es t)
+
+-- an accepted event on the ready queue: "ready: joins the line at its tail", "block: leaves the line", "end: leaves the line if in it"
+unfoldable pub queueBy : List ℕ → List ℕ → List ℕ
+queueBy e q =
+    cond (eqb (kindOf e) Event.ready) (q ++ (threadOf e ∷ []))
+    (cond (eqb (kindOf e) Event.block || eqb (kindOf e) Event.end) (leaves q (threadOf e))
+    q)
+
+unfoldable pub queueFrom : List (List ℕ) → List ℕ
+queueFrom [] = []
+queueFrom (e ∷ es) = queueBy e (queueFrom es)
+
+-- ---- the clock
+
+-- the last accepted stamp
+unfoldable pub stampFrom : List (List ℕ) → ℕ
+stampFrom [] = 0
+stampFrom (e ∷ es) = stampOf e
+
+-- the elapsed of the event e after the events es
+abbrev pub elapsedFrom : List (List ℕ) → List ℕ → ℕ
+elapsedFrom es e = elapsedOf (stampOf e) (stampFrom es)
+
+-- the time since the last tick or resume
+unfoldable pub sinceFrom : List (List ℕ) → ℕ
+sinceFrom [] = 0
+sinceFrom (e ∷ es) = cond (eqb (kindOf e) Event.tick || eqb (kindOf e) Event.resume) 0 (sinceFrom es + elapsedFrom es e)
+
+-- the ticks since the last resume; each moves to the next slot, of which there are W
+unfoldable pub ticksFrom : List (List ℕ) → ℕ
+ticksFrom [] = 0
+ticksFrom (e ∷ es) = cond (eqb (kindOf e) Event.resume) 0 (cond (eqb (kindOf e) Event.tick) (suc (ticksFrom es)) (ticksFrom es))
+
+abbrev pub slotFrom : Settings → List (List ℕ) → ℕ
+slotFrom c es = ticksFrom es % W c
+
+-- ---- the decision and the charges
+
+-- what a decision looks at: settings c, threads' records, a ready queue, totals. The rest of a state is zero here: no decision looks at it
+abbrev pub picture : Settings → (ℕ → Thread) → List ℕ → (ℕ → ℕ) → State
+picture c threads queue totals =
+    record {
+      settings = c;
+      used = map (λ p. cycles (totals p)) (below 16);
+      stamp = 0;
+      slot = record { 0 = 0 };
+      since = cycles 0;
+      threads = map threads (below 64);
+      queue = queue ++ replicate (64 - length queue) 0;
+      queued = length queue;
+      running = idle;
+    }
+
+-- "what was charged to p in the present tick and the W − 1 before it", from its charges in each tick period, newest first
+abbrev pub inWindow : Settings → List ℕ → ℕ
+inWindow c periods = sum (take (W c) periods)
+
+-- the decision after the events es, where `periods p` is what they charged to p in each tick period
+unfoldable pub decisionOf : Settings → List (List ℕ) → (ℕ → List ℕ) → Decided
+decisionOf c es periods = decide (picture c (recordFrom es) (queueFrom es) (λ p. inWindow c (periods p)))
+
+-- x, if the decision d chose a thread of p; "idle time goes to no account"
+unfoldable pub chargeBy : Decided → ℕ → ℕ → ℕ
+chargeBy d p x = cond (not (eqb (d .mode) idleMode) && eqb (d .partition) p) x 0
+
+-- a partition's charges in each tick period, newest first, after the accepted event e, which charges x to it: a tick is charged to the
+-- period that it ends, and opens a new one; a resume starts over
+unfoldable pub periodsBy : List ℕ → ℕ → List ℕ → List ℕ
+periodsBy e x ys =
+    cond (eqb (kindOf e) Event.resume) (0 ∷ [])
+    (cond (eqb (kindOf e) Event.tick) (0 ∷ addFirst x ys)
+    (addFirst x ys))
+
+-- what was charged to p in each tick period since the last resume, newest first: the elapsed of the events for which the decision before,
+-- after the events es, chose a thread of p
+unfoldable pub periodsFrom : Settings → List (List ℕ) → ℕ → List ℕ
+periodsFrom c [] p = 0 ∷ []
+periodsFrom c (e ∷ es) p = periodsBy e (chargeBy (decisionOf c es (periodsFrom c es)) p (elapsedFrom es e)) (periodsFrom c es p)
+
+abbrev pub usedFrom : Settings → List (List ℕ) → ℕ → ℕ
+usedFrom c es p = inWindow c (periodsFrom c es p)
+
+abbrev pub decisionFrom : Settings → List (List ℕ) → Decided
+decisionFrom c es = decisionOf c es (periodsFrom c es)
+
+-- the decisions after each of the accepted events bs, oldest first, which follow es
+unfoldable pub decisionsFrom : Settings → List (List ℕ) → List (List ℕ) → List Decided
+decisionsFrom c es [] = []
+decisionsFrom c es (b ∷ bs) = decisionFrom c (b ∷ es) ∷ decisionsFrom c (b ∷ es) bs
+
+-- how many ticks ago slot k was the current one
+abbrev pub ageOf : Settings → List (List ℕ) → ℕ → ℕ
+ageOf c es k = (slotFrom c es + W c - k) % W c
+
+-- ---- the statements
+
+-- a state and a history are those of the account of the events es; `lent` is the history as it was lent
+pub record Accounted (c : Settings) (lent : List ℕ) (es : List (List ℕ)) (v : Saved) : Type 0 where
+  pub settings : v .state .settings ≡ c
+  pub threads : (t : ℕ) → thread (v .state) t ≡ recordFrom es t
+  pub queue : queueOf (v .state) ≡ queueFrom es
+  pub stamp : v .state .stamp ≡ stampFrom es
+  pub since : v .state .since .0 ≡ sinceFrom es
+  pub slot : v .state .slot .0 ≡ slotFrom c es
+  pub totals : (p : ℕ) → used (v .state) p ≡ usedFrom c es p
+  -- partition p's number for slot k is what it was charged in the tick period of that slot
+  pub history : (p k : ℕ) → p < c .count → k < W c → getD (v .history) (p * W c + k) 0 ≡ getD (periodsFrom c es p) (ageOf c es k) 0
+  pub past : drop (c .count * W c) (v .history) ≡ drop (c .count * W c) lent
+  pub size : length (v .history) ≡ length lent
+  pub decision : decide (v .state) ≡ decisionFrom c es
+  pub running : v .state .running ≡ decisionFrom c es .thread
+
+-- DEMAND 2, the account: from a fresh start and after every list of events, the state and the history are those that the sheet and the accepted
+-- ones of the events give
+abbrev pub Account : Type 0
+Account =
+    (sheet h : List ℕ) → refusedStart sheet h ≡ 0 → (events : List (List ℕ)) →
+    Accounted (settingsOf sheet) h (reverse (acceptedOf (fresh (settingsOf sheet) h) events)) (after (fresh (settingsOf sheet) h) events)
+
+-- DEMAND 2, the answers: mode, partition and thread of every answer to an accepted event are a function of the sheet and the accepted events
+abbrev pub Answers : Type 0
+Answers =
+    (sheet h : List ℕ) → refusedStart sheet h ≡ 0 → (events : List (List ℕ)) →
+    map (λ e. e .answer .decision) (keep accepted (run (fresh (settingsOf sheet) h) events))
+    ≡ decisionsFrom (settingsOf sheet) [] (acceptedOf (fresh (settingsOf sheet) h) events)

@@ -1,0 +1,126 @@
+-- Demand 3, of a list of events ("The list that demand 3 speaks of" of document 01): in terms of the events' bytes, the answers that they
+-- got, and the starting state.
+use Prim.Native.Nat.{ℕ, _+_, _-_, _*_, _/_, _≤_, _<_}
+use mathlib.Core.Path.{_≡_}
+use mathlib.Core.Bool.{Bool, true, false, not, cond, _&&_}
+use mathlib.Core.List.{List, [], _∷_, _++_}
+use lib.ListN.{length, take}
+use lib.IntN.{ℤ, pos, _-ℤ_}
+use lib.Signed.{_≤ℤ_}
+use lib.Dec.{eqb}
+use Rattle.lists.specs.Lists.{below, any, keep, member}
+use Rattle.units.specs.Units.{elapsedOf}
+use Rattle.sheet.specs.Settings.{W, C, budget}
+use Rattle.sheet.specs.declared.Settings.{Settings}
+use Rattle.model.specs.State.{thread, queueOf, allows}
+use Rattle.model.specs.Policy.{idleMode}
+use Rattle.model.specs.Typed.{Lengths}
+use Rattle.model.specs.Event
+use Rattle.model.specs.Event.{kindOf, threadOf, partitionOf, maskOf, stampOf, refusedState}
+use Rattle.model.specs.Step.{Saved}
+use Rattle.model.specs.Run.{Entry, run}
+use Rattle.model.specs.declared.State.{State}
+
+abbrev pub accepted : Entry → Bool
+accepted e = eqb (e .answer .refusal) 0
+
+-- an accepted event of kind k
+abbrev pub isKind : ℕ → Entry → Bool
+isKind k e = accepted e && eqb (kindOf (e .event)) k
+
+-- ---- charges
+
+-- what an accepted event's charge needs of the accepted event before it: its stamp, and what it chose
+pub record Last : Type 0 where
+  pub stamp : ℕ
+  pub mode : ℕ
+  pub partition : ℕ
+
+abbrev pub lastOf : Entry → Last
+lastOf e = record { stamp = stampOf (e .event); mode = e .answer .decision .mode; partition = e .answer .decision .partition }
+
+abbrev pub elapsedSince : Last → Entry → ℕ
+elapsedSince l e = elapsedOf (stampOf (e .event)) (l .stamp)
+
+-- the elapsed of an accepted event, if the accepted event before it chose a thread of p
+unfoldable pub chargeOf : ℕ → Last → Entry → ℕ
+chargeOf p l e = cond (not (eqb (l .mode) idleMode) && eqb (l .partition) p) (elapsedSince l e) 0
+
+-- "Charged to p in the stretch": what p is charged by the accepted ones of a list of events
+unfoldable pub chargedTo : ℕ → Last → List Entry → ℕ
+chargedTo p l [] = 0
+chargedTo p l (e ∷ es) = cond (accepted e) (chargeOf p l e + chargedTo p (lastOf e) es) (chargedTo p l es)
+
+-- ---- the stretch
+
+-- at each accepted tick the elapsed since the tick before, its own included, add up to c; n has elapsed already
+unfoldable pub fullTicks : ℕ → ℕ → Last → List Entry → Bool
+fullTicks c n l [] = true
+fullTicks c n l (e ∷ es) =
+    cond (not (accepted e)) (fullTicks c n l es)
+    (cond (eqb (kindOf (e .event)) Event.tick) (eqb (n + elapsedSince l e) c && fullTicks c 0 (lastOf e) es)
+    (fullTicks c (n + elapsedSince l e) (lastOf e) es))
+
+-- "Stretch: from an accepted tick, the opening one, to the 2 × W-th accepted tick after it, the closing one", with no resume
+pub record Stretch (c : Settings) (opening : Entry) (within : List Entry) (closing : Entry) : Type 0 where
+  pub opens : isKind Event.tick opening ≡ true
+  pub closes : isKind Event.tick closing ≡ true
+  pub ticks : length (keep (isKind Event.tick) (within ++ (closing ∷ []))) ≡ 2 * W c
+  pub noResume : any (isKind Event.resume) within ≡ false
+  pub full : fullTicks (C c) 0 (lastOf opening) (within ++ (closing ∷ [])) ≡ true
+
+-- ---- who is ready
+
+-- what a list of events tells of a thread: whether it is ready, and where its accepted create put it
+pub record Known : Type 0 where
+  pub ready : Bool
+  pub partition : ℕ
+  pub mask : ℕ
+
+-- by an accepted event that names it
+unfoldable pub toldBy : List ℕ → Known → Known
+toldBy b k =
+    cond (eqb (kindOf b) Event.create) (record { ready = false; partition = partitionOf b; mask = maskOf b })
+    (cond (eqb (kindOf b) Event.ready) (record { ready = true; partition = k .partition; mask = k .mask })
+    (cond (eqb (kindOf b) Event.block) (record { ready = false; partition = k .partition; mask = k .mask })
+    (cond (eqb (kindOf b) Event.end) (record { ready = false; partition = 0; mask = 0 })
+    k)))
+
+unfoldable pub knownAfter : ℕ → Known → List Entry → Known
+knownAfter t k [] = k
+knownAfter t k (e ∷ es) = knownAfter t (cond (accepted e && eqb (threadOf (e .event)) t) (toldBy (e .event) k) k) es
+
+-- "A thread in the line of the starting state is ready from there"
+abbrev pub knownAt : State → ℕ → Known
+knownAt s t = record { ready = member t (queueOf s); partition = thread s t .partition; mask = thread s t .mask }
+
+-- it is ready, in partition p, and allowed on core m
+abbrev pub waitsIn : ℕ → ℕ → Known → Bool
+waitsIn p m k = k .ready && eqb (k .partition) p && allows (k .mask) m
+
+-- after the events es from the state s, p has a ready thread allowed on the core
+unfoldable pub waits : State → List Entry → ℕ → Bool
+waits s es p = any (λ t. waitsIn p (s .settings .core) (knownAfter t (knownAt s t) es)) (below 64)
+
+-- ---- the demand
+
+-- what each other partition may cost one that waits: "3 × C / 4", the part of a tick period that need not remain of its budget
+unfoldable pub loss : Settings → ℕ
+loss c = 3 * C c / 4
+
+-- "Bound: p's budget less 3 × C / 4 for each other partition, a signed number"
+unfoldable pub bound : Settings → ℕ → ℤ
+bound c p = pos (budget c p) -ℤ pos ((c .count - 1) * loss c)
+
+-- DEMAND 3: from any state that the event door takes, in every list of events, in every stretch of it, a partition that has a ready
+-- thread allowed on the core after the opening tick and after each later event before the closing one is charged at least its bound.
+-- The lengths are those of every value of the struct
+abbrev pub Demand3 : Type 0
+Demand3 =
+    (v : Saved) → Lengths (v .state) → refusedState (v .state) (v .history) ≡ 0 →
+    (events : List (List ℕ)) (before : List Entry) (opening : Entry) (within : List Entry) (closing : Entry) (later : List Entry) →
+    run v events ≡ before ++ (opening ∷ (within ++ (closing ∷ later))) →
+    Stretch (v .state .settings) opening within closing →
+    (p : ℕ) → p < v .state .settings .count →
+    ((n : ℕ) → n ≤ length within → waits (v .state) (before ++ (opening ∷ take n within)) p ≡ true) →
+    bound (v .state .settings) p ≤ℤ pos (chargedTo p (lastOf opening) (within ++ (closing ∷ [])))

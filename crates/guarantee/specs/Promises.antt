@@ -1,0 +1,129 @@
+-- What is proved of the model beside the demands on lists of events (Ledger, Demand3): soundness is kept, and what the decision is.
+use Prim.Native.Nat.{ℕ, _≤_, _<_}
+use mathlib.Core.Logic.{_≢_}
+use mathlib.Core.Path.{_≡_}
+use mathlib.Core.Bool.{Bool, true, false, _&&_}
+use mathlib.Core.List.{List, [], _∷_, _++_}
+use lib.ListN.{length, drop}
+use lib.Dec.{eqb}
+use Rattle.lists.specs.Lists.{member}
+use Rattle.sheet.specs.Sheet.{settingsOf}
+use Rattle.model.specs.State.{thread, queueOf, allows, idle, used, wanted}
+use Rattle.model.specs.Typed.{Words, Bytes, Typed}
+use Rattle.model.specs.Policy.{Decided, competing, hasBudget, idleMode, mode, before, decide}
+use Rattle.model.specs.Sound.{sound}
+use Rattle.model.specs.Event.{refusedState}
+use Rattle.model.specs.Step.{Saved, answer}
+use Rattle.model.specs.Run.{fresh, after}
+use Rattle.model.specs.Doors.{refusedStart}
+use Rattle.model.specs.declared.State.{State}
+
+-- ---- soundness
+
+-- a value of the Rust types that every door takes: its settings within their limits, its history long enough, its state sound
+pub record Taken (v : Saved) : Type 0 where
+  pub typed : Typed (v .state) (v .history)
+  pub taken : refusedState (v .state) (v .history) ≡ 0
+
+-- events are lists of bytes
+abbrev pub AllBytes : List (List ℕ) → Type 0
+AllBytes [] = Unit {0}
+AllBytes (b ∷ bs) = Bytes b × AllBytes bs
+
+-- a fresh start is taken, and every event, accepted or refused, keeps it so
+abbrev pub Starts : Type 0
+Starts = (sheet h : List ℕ) → Words h → refusedStart sheet h ≡ 0 → Taken (fresh (settingsOf sheet) h)
+
+abbrev pub Keeps : Type 0
+Keeps = (v : Saved) (b : List ℕ) → Taken v → Bytes b → Taken (answer v b .after)
+
+-- "A run of many events may check this once"
+abbrev pub RunKeeps : Type 0
+RunKeeps = (v : Saved) (bs : List (List ℕ)) → Taken v → AllBytes bs → Taken (after v bs)
+
+-- "Numbers after the last row are never touched"; settings and the history's length never change
+abbrev pub Untouched : Type 0
+Untouched =
+    (v : Saved) (b : List ℕ) → Taken v →
+    (drop (wanted (v .state)) (answer v b .after .history) ≡ drop (wanted (v .state)) (v .history))
+    × (length (answer v b .after .history) ≡ length (v .history))
+    × (answer v b .after .state .settings ≡ v .state .settings)
+
+-- used(p) is "At most 799,920,000"
+abbrev pub TotalsFit : Type 0
+TotalsFit = (v : Saved) → Taken v → (p : ℕ) → p < v .state .settings .count → used (v .state) p ≤ 799920000
+
+-- ---- the decision
+
+-- a queued thread that this core may run
+pub record Allowed (s : State) (t : ℕ) : Type 0 where
+  pub queued : member t (queueOf s) ≡ true
+  pub allowed : allows (thread s t .mask) (s .settings .core) ≡ true
+
+abbrev pub NoneAllowed : State → Type 0
+NoneAllowed s = (t : ℕ) → Allowed s t → ⊥
+
+-- "Idle answers partition 0, thread 255"
+abbrev pub idleDecision : Decided
+idleDecision = record { mode = idleMode; partition = 0; thread = idle }
+
+-- idle exactly where no queued thread is allowed on this core; mode 0 alone, and thread 255 alone, say so
+pub record IdleExactly (s : State) : Type 0 where
+  pub when : NoneAllowed s → decide s ≡ idleDecision
+  pub by-mode : decide s .mode ≡ idleMode → NoneAllowed s
+  pub by-thread : decide s .thread ≡ idle → NoneAllowed s
+
+abbrev pub Idles : Type 0
+Idles = (s : State) (h : List ℕ) → sound s h ≡ true → IdleExactly s
+
+-- in each mode "comes before" is a strict weak order, so that there is a best
+pub record StrictWeak (R : ℕ → ℕ → Bool) : Type 0 where
+  pub asymmetric : (p q : ℕ) → R p q ≡ true → R q p ≡ false
+  pub negatively-transitive : (p q r : ℕ) → R p q ≡ false → R q r ≡ false → R p r ≡ false
+
+abbrev pub Orders : Type 0
+Orders = (s : State) (m : ℕ) → StrictWeak (before s m)
+
+-- of the partitions below n that compete, none comes before w, and w comes before every one of lower number: it is the lowest of the best
+pub record Won (s : State) (n w : ℕ) : Type 0 where
+  pub inside : w < n
+  pub competes : competing s w ≡ true
+  pub unbeaten : (q : ℕ) → q < n → competing s q ≡ true → before s (mode s) q w ≡ false
+  pub lowest : (q : ℕ) → q < w → competing s q ≡ true → before s (mode s) w q ≡ true
+
+-- l has t at a place before which the test holds of none
+pub record FirstOf (test : ℕ → Bool) (l : List ℕ) (t : ℕ) : Type 0 where
+  pub earlier : List ℕ
+  pub later : List ℕ
+  pub split : l ≡ earlier ++ (t ∷ later)
+  pub holds : test t ≡ true
+  pub not-earlier : (u : ℕ) → member u earlier ≡ true → test u ≡ false
+
+-- thread t is of partition p, and this core may run it
+abbrev pub mayRun : State → ℕ → ℕ → Bool
+mayRun s p t = eqb (thread s t .partition) p && allows (thread s t .mask) (s .settings .core)
+
+-- "the first in the line with the top priority among threads this core may run"
+pub record Choice (s : State) (p t : ℕ) : Type 0 where
+  pub place : FirstOf (λ u. mayRun s p u && eqb (thread s u .priority) (thread s t .priority)) (queueOf s) t
+  pub top : (u : ℕ) → member u (queueOf s) ≡ true → mayRun s p u ≡ true → thread s u .priority ≤ thread s t .priority
+
+-- what a decision is that chooses a thread
+pub record Busy (s : State) (d : Decided) : Type 0 where
+  pub mode-is : d .mode ≡ mode s
+  pub mode-busy : d .mode ≢ idleMode
+  pub won : Won s (s .settings .count) (d .partition)
+  pub choice : Choice s (d .partition) (d .thread)
+
+abbrev pub Chooses : Type 0
+Chooses = (s : State) (h : List ℕ) → sound s h ≡ true → (t : ℕ) → Allowed s t → Busy s (decide s)
+
+-- and there is only one such
+abbrev pub ChoosesOne : Type 0
+ChoosesOne = (s : State) (d e : Decided) → Busy s d → Busy s e → d ≡ e
+
+-- where a partition that competes has budget, the one chosen has budget
+abbrev pub BudgetFirst : Type 0
+BudgetFirst =
+    (s : State) (h : List ℕ) → sound s h ≡ true → (p : ℕ) → p < s .settings .count → competing s p ≡ true → hasBudget s p ≡ true →
+    (decide s .mode ≢ idleMode) × (hasBudget s (decide s .partition) ≡ true)

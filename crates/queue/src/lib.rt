@@ -1,0 +1,133 @@
+// The ready queue, the paper's line: a thread joins it at the tail and leaves it from any place. The places after the last stay zero.
+use model::State;
+use model::Thread;
+ghost use mathlib.Core.Path.{_≡_};
+ghost use mathlib.Core.Bool.{not};
+ghost use mathlib.Core.List.{_++_, _∷_, []};
+ghost use Prim.Native.Nat.{_<_, min};
+ghost use lib.Dec.{eqb};
+ghost use lib.ListN.{take};
+ghost use Rattle.lists.specs.Lists;
+ghost use Rattle.lists.specs.Lists.{consIf};
+ghost use Rattle.model.specs.State.{queueOf};
+ghost use Rattle.model.specs.Step.{leaves, joins, goes};
+ghost use Rattle.queue.specs.Entries.{entriesOf, queueFrom, Room};
+
+// A ready queue by itself: its entries are thread numbers in order of becoming ready, with zeros after them.
+pub struct Queue {
+    pub entries: [u8; 64],
+    pub length: u8,
+}
+
+// How many of the 64 places are in use. A damaged state may say more than there are.
+fn in_use(queued: u8) -> usize
+    ensures { λ r. ⌜ r ≡ min queued 64 ⌝ }
+{
+    if queued < 64 {
+        return queued as usize;
+    }
+    64
+}
+
+// One thread more at the tail.
+fn append(q: Queue, t: u8) -> Queue
+    requires { ⌜ (q ≡ queueFrom (entriesOf q)) × (q .length < 64) ⌝ }
+    ensures { λ r. ⌜ r ≡ queueFrom (entriesOf q ++ (t ∷ [])) ⌝ }
+{
+    let mut r = q;
+    let n = q.length as usize;
+    r.entries[n] = t;
+    r.length = q.length + 1;
+    r
+}
+
+// The same for an entry, unless it is the thread that leaves.
+fn append_unless(q: Queue, entry: u8, t: u8) -> Queue
+    requires { ⌜ (q ≡ queueFrom (entriesOf q)) × (q .length < 64) ⌝ }
+    ensures { λ r. ⌜ r ≡ queueFrom (entriesOf q ++ consIf (not (eqb entry t)) entry []) ⌝ }
+{
+    if entry == t {
+        return q;
+    }
+    append(q, entry)
+}
+
+// The first entries, without thread t. Appending the others to a fresh queue holds for any entries, with repeats or without.
+fn without(entries: [u8; 64], queued: u8, t: u8) -> Queue
+    ensures { λ r. ⌜ r ≡ queueFrom (leaves (take queued entries) t) ⌝ }
+{
+    let count = in_use(queued);
+    let zeros = [0u8; 64];
+    let mut q = Queue {
+        entries: zeros,
+        length: 0,
+    };
+    let mut i: usize = 0;
+    while i < count {
+        let entry = entries[i];
+        q = append_unless(q, entry, t);
+        i += 1;
+    }
+    q
+}
+
+// Thread t is one of the first entries.
+fn holds(entries: [u8; 64], queued: u8, t: u8) -> bool
+    ensures { λ r. ⌜ r ≡ Lists.member t (take queued entries) ⌝ }
+{
+    let count = in_use(queued);
+    let mut i: usize = 0;
+    while i < count {
+        if t == entries[i] {
+            return true;
+        }
+        i += 1;
+    }
+    false
+}
+
+// Thread t is in the ready queue. This holds for any state, also for a damaged one.
+pub fn member(s: State, t: u8) -> bool
+    ensures { λ r. ⌜ r ≡ Lists.member t (queueOf s) ⌝ }
+{
+    let entries = s.queue;
+    holds(entries, s.queued, t)
+}
+
+// Thread t joins the queue at its tail, and is ready.
+pub fn join(s: State, t: u8) -> State
+    requires { ⌜ Room s × (t < 64) ⌝ }
+    ensures { λ r. ⌜ r ≡ joins s t ⌝ }
+{
+    let entries = s.queue;
+    let q = append(
+        Queue {
+            entries: entries,
+            length: s.queued,
+        },
+        t,
+    );
+    let at = t as usize;
+    let mut after = s;
+    after.threads[at].ready = true;
+    let queue = q.entries;
+    after.queue = queue;
+    after.queued = q.length;
+    after
+}
+
+// Thread t leaves the queue, if it is in it, and its record is the given one.
+pub fn leave(s: State, t: u8, record: Thread) -> State
+    requires { ⌜ t < 64 ⌝ }
+    ensures { λ r. ⌜ r ≡ goes s t «record» ⌝ }
+{
+    let entries = s.queue;
+    let q = without(entries, s.queued, t);
+    let at = t as usize;
+    let mut after = s;
+    after.threads[at] = record;
+    let queue = q.entries;
+    after.queue = queue;
+    after.queued = q.length;
+    after
+}
