@@ -8,7 +8,7 @@ use lib.ListN.{getD, take, replicate}
 use lib.IntN.{ℤ, pos, negsuc, _-ℤ_}
 use Rattle.lists.specs.Lists.{below, any, all, keep, first, maximum, distinct}
 use Rattle.units.specs.Units.{budgetOf, elapsedOf, remainingOf, hasBudgetOf, smallerFraction}
-use Rattle.sheet.specs.Settings.{budget, windowFits, tickFits, policyAndCoreFit, countFits, sharesFit, withinLimits, refusedSettings}
+use Rattle.sheet.specs.Settings.{budget, windowFits, tickFits, policyAndCoreFit, countFits, sharesFit, withinLimits, refusedNumbers, refusedSettings}
 use Rattle.sheet.specs.Records.{numberFrom, framed, fieldOf, digitsOf, recordOf}
 use Rattle.sheet.specs.Sheet.{letterAt, wholeRecords, fieldAt, valueAt, recordsFormed, settingsOf, refusedSheet, valueOf, recordsOf, sheetOf}
 use Rattle.model.specs.State.{allows}
@@ -84,7 +84,7 @@ table =
 
 -- THE TEST: every entry is as the paper says, by computation
 pub as-the-paper-says : map (λ c. c .given) table ≡ map (λ c. c .paper) table
-unfolding yesNo percents kit sheetNumber event numbers second says table below any all keep first maximum distinct budgetOf elapsedOf remainingOf hasBudgetOf smallerFraction budget windowFits tickFits policyAndCoreFit countFits sharesFit withinLimits refusedSettings numberFrom framed fieldOf digitsOf recordOf letterAt wholeRecords fieldAt valueAt recordsFormed settingsOf refusedSheet valueOf recordsOf sheetOf allows Policy.candidates Policy.competing Policy.topPriority Policy.remaining Policy.hasBudget Policy.betterFraction Policy.mode Policy.byBudget Policy.byPriority Policy.ratioPolicy Policy.before Policy.best Policy.better Policy.winner Policy.chosen Policy.decideFor Policy.decide Sound.slotSum Sound.soundHistory Sound.soundThread Sound.soundQueue Sound.soundRest Sound.soundRunning Sound.sound Event.stampOf Event.wellFormed Event.known Event.namesPlace Event.namesPriority Event.tooLong Event.namesThread Event.wrongThread Event.wrongPlace Event.wrongReadiness Event.refusedState Event.refusedEvent Event.refused Step.billed Step.addUsed Step.addHistory Step.charge Step.clearHistory Step.lowerUsed Step.moveSlot Step.leaves Step.act Step.settle Step.restart Step.apply answer
+unfolding yesNo percents kit sheetNumber event numbers second says table below any all keep first maximum distinct budgetOf elapsedOf remainingOf hasBudgetOf smallerFraction budget windowFits tickFits policyAndCoreFit countFits sharesFit withinLimits refusedNumbers refusedSettings numberFrom framed fieldOf digitsOf recordOf letterAt wholeRecords fieldAt valueAt recordsFormed settingsOf refusedSheet valueOf recordsOf sheetOf allows Policy.candidates Policy.competing Policy.topPriority Policy.remaining Policy.hasBudget Policy.betterFraction Policy.mode Policy.byBudget Policy.byPriority Policy.ratioPolicy Policy.before Policy.best Policy.better Policy.winner Policy.chosen Policy.decideFor Policy.decide Sound.slotSum Sound.soundHistory Sound.soundThread Sound.soundQueue Sound.soundRest Sound.soundRunning Sound.sound Event.stampOf Event.wellFormed Event.known Event.namesPlace Event.namesPriority Event.tooLong Event.namesThread Event.wrongThread Event.wrongPlace Event.wrongReadiness Event.refusedState Event.refusedEvent Event.refused Step.billed Step.addUsed Step.addHistory Step.charge Step.clearHistory Step.lowerUsed Step.moveSlot Step.leaves Step.act Step.settle Step.restart Step.apply answer
 as-the-paper-says = refl
 
 -- THE LAW: so each entry is

@@ -115,6 +115,15 @@ write-room c n e = go (eqb (refusedSettings c) 0) refl e
     go true h f = (eqb-true (refusedSettings c) 0 h, ltb-false n (sheetLength c) (passes (ltb n (sheetLength c)) 7 0 tt f .0))
     go false h f = clash (eq-eqb (refusedSettings c) 0 f) h
 
+-- what is written fits the buffer
+pub written-fits : (c : Settings) (n : ℕ) → lengthWritten c n ≤ n
+unfolding lengthWritten
+written-fits c n = go (eqb (refusedWrite c n) 0) refl
+  where
+    go : (b : Bool) → eqb (refusedWrite c n) 0 ≡ b → cond b (sheetLength c) 0 ≤ n
+    go true h = write-room c n (eqb-true (refusedWrite c n) 0 h) .1
+    go false h = omega arith
+
 pub nothing-written : (c : Settings) (buffer : List ℕ) → eqb (refusedWrite c (length buffer)) 0 ≡ false
     → (lengthWritten c (length buffer) ≡ 0) × (bufferWritten c buffer ≡ buffer)
 unfolding lengthWritten bufferWritten
