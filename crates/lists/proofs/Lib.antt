@@ -9,3 +9,4 @@ pub mod Tables
 pub mod Parts
 pub mod Prefixes
 pub mod Scans
+pub mod Loops

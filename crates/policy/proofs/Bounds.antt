@@ -1,0 +1,26 @@
+-- What gives the decision what it needs: facts of the queue's members, as soundness has them.
+use mathlib.Core.Path.{_≡_}
+use mathlib.Core.Bool.{true}
+use Prim.Native.Nat.{ℕ, _≤_, _<_}
+use native.Mathlib.Omega.{arith}
+use lib.ListN.{length, getD}
+use Rattle.lists.specs.Lists.{member}
+use Rattle.lists.proofs.Loops.{member-at}
+use Rattle.sheet.specs.Settings.{Limits}
+use Rattle.model.specs.State.{thread, queueOf}
+use Rattle.model.specs.declared.State.{State}
+use Rattle.policy.specs.Needs.{Bounded}
+
+pub bounded : (s : State) → Limits (s .settings) → length (s .queue) ≡ 64 → s .queued ≤ 64
+    → ((t : ℕ) → member t (queueOf s) ≡ true → t < 64)
+    → ((t : ℕ) → member t (queueOf s) ≡ true → thread s t .partition < s .settings .count)
+    → Bounded s
+bounded s limits long few numbers valid = record {
+  limits = limits;
+  queued = few;
+  entries = λ i b. numbers (getD (s .queue) i 0) (queued i b);
+  partitions = λ i b. omega (arith, valid (getD (s .queue) i 0) (queued i b), limits .count-high);
+}
+  where
+    queued : (i : ℕ) → i < s .queued → member (getD (s .queue) i 0) (queueOf s) ≡ true
+    queued i b = member-at (s .queue) (s .queued) i (omega (arith, long, few)) b

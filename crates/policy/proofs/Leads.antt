@@ -1,0 +1,153 @@
+-- Laws of the order and of the best standing: they are the paper's order and winner.
+use mathlib.Core.Path.{_≡_, refl, ap, _∙_}
+use Prim.Native.Nat.{ℕ, zero, suc, _<_, _≤_}
+use mathlib.Core.Bool.{Bool, true, false, not, cond, _&&_, _||_}
+use mathlib.Core.List.{List}
+use mathlib.Core.Option.{Option, none, some}
+use native.Mathlib.Omega.{arith}
+use lib.ListN.{getD}
+use lib.Dec.{eqb, ltb}
+use borrow.Author.Tests.{ltb-true, ltb-false, eq-eqb, ne-eqb}
+use Rattle.model.specs.Policy
+use Rattle.model.specs.Policy.{competing, hasBudget, topPriority, mode, byBudget, byPriority, betterFraction, ratioPolicy, best, better, winner}
+use Rattle.model.specs.Answers.{modeOf}
+use Rattle.model.specs.declared.State.{State}
+use Rattle.model.specs.declared.Mode.{Mode}
+use Rattle.model.specs.declared.Mode.the-variants.{Idle, FreeTime, Underload, AtLimit}
+use Rattle.policy.specs.Standings.{nothing, standing, Standings}
+use Rattle.policy.specs.Orders.{orderBy, firstBy, comesBefore, ledBy, leadBelow}
+use Rattle.policy.specs.Search.{standingOfWinner}
+use Rattle.policy.specs.declared.orders.Order.{Order}
+use Rattle.policy.specs.declared.standings.Standing.{Standing}
+
+-- ---- the order
+
+-- neither the larger nor the smaller is equal
+higher-first : (a b : ℕ) (rest : Bool) → firstBy (ltb b a) (ltb a b) rest ≡ (ltb b a || (eqb b a && rest))
+higher-first a b rest = go (ltb b a) refl (ltb a b) refl
+  where
+    go : (y : Bool) → ltb b a ≡ y → (z : Bool) → ltb a b ≡ z → firstBy y z rest ≡ (y || (eqb b a && rest))
+    go true e z f = refl
+    go false e true f = let h : a < b = ltb-true a b f in rw (ne-eqb b a (omega arith))
+    go false e false f =
+        let h : a ≤ b = ltb-false b a e in
+        let k : b ≤ a = ltb-false a b f in
+        rw (eq-eqb b a (omega arith))
+
+richer-first : (a b rest : Bool) → firstBy (a && not b) (b && not a) rest ≡ ((a && not b) || (cond a b (not b) && rest))
+richer-first true true rest = refl
+richer-first true false rest = refl
+richer-first false true rest = refl
+richer-first false false rest = refl
+
+module _ (s : State) (p q : ℕ) where
+  by-priority : (rest : Bool)
+      → firstBy (ltb (topPriority s q) (topPriority s p)) (ltb (topPriority s p) (topPriority s q)) rest ≡ byPriority s p q rest
+  unfolding byPriority
+  by-priority rest = higher-first (topPriority s p) (topPriority s q) rest
+
+  by-budget : (rest : Bool)
+      → firstBy (hasBudget s p && not (hasBudget s q)) (hasBudget s q && not (hasBudget s p)) rest ≡ byBudget s p q rest
+  unfolding byBudget
+  by-budget rest = richer-first (hasBudget s p) (hasBudget s q) rest
+
+  -- on has budget, top priority and the fraction
+  by-all : comesBefore (record { budget = true; priority = true }) (standing s p) (standing s q)
+      ≡ byBudget s p q (byPriority s p q (betterFraction s p q))
+  unfolding comesBefore standing betterFraction
+  by-all = rw (by-priority (betterFraction s p q)) (by-budget (byPriority s p q (betterFraction s p q)))
+
+  -- without the top priority
+  by-ratio : comesBefore (record { budget = true; priority = false }) (standing s p) (standing s q) ≡ byBudget s p q (betterFraction s p q)
+  unfolding comesBefore standing betterFraction
+  by-ratio = by-budget (betterFraction s p q)
+
+  -- on the fraction alone
+  by-fraction : comesBefore (record { budget = false; priority = false }) (standing s p) (standing s q) ≡ betterFraction s p q
+  unfolding comesBefore standing betterFraction
+  by-fraction = refl
+
+  before-is : (m : Mode) → comesBefore (orderBy m (s .settings .policy)) (standing s p) (standing s q) ≡ Policy.before s (modeOf m) p q
+  unfolding Policy.before ratioPolicy
+  before-is Idle = by-all
+  before-is FreeTime = go (eqb (s .settings .policy) 1)
+    where
+      go : (z : Bool) → comesBefore (record { budget = true; priority = not z }) (standing s p) (standing s q)
+          ≡ cond z (byBudget s p q (betterFraction s p q)) (byBudget s p q (byPriority s p q (betterFraction s p q)))
+      go true = by-ratio
+      go false = by-all
+  before-is Underload = by-all
+  before-is AtLimit = by-fraction
+
+-- the order of the mode that the standings give is the paper's
+pub order-found : (s : State) (m : Mode) → modeOf m ≡ mode s → (p q : ℕ)
+    → comesBefore (orderBy m (s .settings .policy)) (standing s p) (standing s q) ≡ Policy.before s (mode s) p q
+order-found s m e p q = before-is s p q m ∙ ap (λ (k : ℕ). Policy.before s k p q) e
+
+-- ---- the best standing
+
+lead-same : (o : Order) (f g : ℕ → Standing) (n : ℕ) → ((p : ℕ) → p < n → f p ≡ g p) → leadBelow o f n ≡ leadBelow o g n
+unfolding leadBelow
+lead-same o f g zero h = refl
+lead-same o f g (suc n) h = rw (lead-same o f g n (λ p b. h p (omega arith)), h n (omega arith))
+
+module _ (o : Order) (best x : Standing) where
+  -- by the answer z to whether x comes before the best
+  pub led-by : (z : Bool) → comesBefore o x best ≡ z → ledBy o best x ≡ cond (x .competing && (not (best .competing) || z)) x best
+  unfolding ledBy
+  led-by z f = rw f
+
+  led-skip : x .competing ≡ false → ledBy o best x ≡ best
+  unfolding ledBy
+  led-skip e = rw e
+
+  led-new : x .competing ≡ true → best .competing ≡ false → ledBy o best x ≡ x
+  unfolding ledBy
+  led-new e c = rw (e, c)
+
+  led-both : x .competing ≡ true → best .competing ≡ true → (z : Bool) → comesBefore o x best ≡ z → ledBy o best x ≡ cond z x best
+  led-both e c z f = led-by z f ∙ rw (e, c)
+
+competes : (s : State) (p : ℕ) → standing s p .competing ≡ competing s p
+unfolding standing
+competes s p = refl
+
+module _ (s : State) (o : Order) (h : (p q : ℕ) → comesBefore o (standing s p) (standing s q) ≡ Policy.before s (mode s) p q) where
+  -- the best standing below n, and that its partition competes
+  abbrev Leads : Standing → Option ℕ → Type 0
+  Leads x none = x ≡ nothing
+  Leads x (some b) = (x ≡ standing s b) × (competing s b ≡ true)
+
+  over : (p : ℕ) (x : Standing) (b : Option ℕ) → Leads x b → competing s p ≡ true → Leads (ledBy o x (standing s p)) (some (better s p b))
+  unfolding better
+  over p x none i e = (rw i (led-new o nothing (standing s p) (competes s p ∙ e) refl), e)
+  over p x (some b) (i, c) e = go (Policy.before s (mode s) p b) refl
+    where
+      led : (z : Bool) → Policy.before s (mode s) p b ≡ z → ledBy o x (standing s p) ≡ cond z (standing s p) (standing s b)
+      led z f = rw i (led-both o (standing s b) (standing s p) (competes s p ∙ e) (competes s b ∙ c) z (h p b ∙ f))
+
+      go : (z : Bool) → Policy.before s (mode s) p b ≡ z → (ledBy o x (standing s p) ≡ standing s (cond z p b)) × (competing s (cond z p b) ≡ true)
+      go true f = (led true f, e)
+      go false f = (led false f, c)
+
+  lead-is : (n : ℕ) → Leads (leadBelow o (standing s) n) (best s n)
+  unfolding leadBelow best
+  lead-is zero = refl
+  lead-is (suc p) = go (competing s p) refl (lead-is p)
+    where
+      go : (z : Bool) → competing s p ≡ z → Leads (leadBelow o (standing s) p) (best s p)
+          → Leads (ledBy o (leadBelow o (standing s) p) (standing s p)) (cond z (some (better s p (best s p))) (best s p))
+      go true e i = over p (leadBelow o (standing s) p) (best s p) i e
+      go false e i = rw (led-skip o (leadBelow o (standing s) p) (standing s p) (competes s p ∙ e)) i
+
+  leads-standing : (x : Standing) (b : Option ℕ) → Leads x b → x ≡ standingOfWinner s b
+  leads-standing x none i = i
+  leads-standing x (some b) i = i .0
+
+  -- the best of the standings is the winner's
+  pub lead-found : (all : List Standing) → Standings s all
+      → leadBelow o (λ p. getD all p nothing) (s .settings .count) ≡ standingOfWinner s (winner s)
+  unfolding winner
+  lead-found all k =
+      let n = s .settings .count in
+      lead-same o (λ p. getD all p nothing) (standing s) n k ∙ leads-standing (leadBelow o (standing s) n) (best s n) (lead-is n)
