@@ -1,0 +1,184 @@
+-- What the doors' steps need of an accepted event, and their answers as the model's.
+use mathlib.Core.Logic.{_≢_}
+use mathlib.Core.Path.{_≡_, refl, sym, ap, subst, _∙_}
+use Prim.Native.Nat.{ℕ, _≤_, _<_}
+use mathlib.Core.Bool.{Bool, true, false}
+use mathlib.Core.List.{List, [], _∷_, _++_}
+use lib.ListN.{length, length-append}
+use lib.Seq.{length-take-le}
+use lib.Dec.{eqb}
+use native.Mathlib.Omega.{arith}
+use borrow.Author.Tests.{eq-eqb, ne-eqb, lt-ltb, le-ltb}
+use Rattle.refusals.specs.Refusals.{numberOf, outcomeOf}
+use Rattle.refusals.specs.declared.Refusal.{Refusal}
+use Rattle.refusals.specs.declared.Refusal.the-variants.{Buffer}
+use Rattle.refusals.specs.declared.Outcome.{Outcome}
+use Rattle.refusals.specs.declared.Outcome.the-variants.{Accepted, Refused}
+use Rattle.refusals.proofs.Laws.{never-zero}
+use Rattle.sheet.specs.declared.Settings.{Settings}
+use Rattle.sheet.specs.Sheet.{settingsOf, refusedSheet}
+use Rattle.model.specs.State.{queueOf, wanted, thread}
+use Rattle.model.specs.Policy.{decide}
+use Rattle.model.specs.Typed.{Lengths}
+use Rattle.model.specs.Event
+use Rattle.model.specs.Event.{kindOf, threadOf, stampOf, refusedState, refusedEvent, refused}
+use Rattle.model.specs.Facts.{Settled}
+use Rattle.model.specs.Facts as Facts
+use Rattle.model.specs.Step.{Saved, saved, withRunning, charge, moveSlot, restart, act, settle, apply, answer, zeroRows}
+use Rattle.model.specs.Step as Step
+use Rattle.model.specs.Run.{freshState}
+use Rattle.model.specs.Doors as Doors
+use Rattle.model.specs.Answers.{decidedOf, lineOf, answerLine}
+use Rattle.model.specs.declared.State.{State}
+use Rattle.model.specs.declared.Decision.{Decision}
+use Rattle.model.specs.declared.Verdict.{Verdict}
+use Rattle.model.specs.declared.Verdict.the-variants as verdict
+use Rattle.model.proofs.Accepted.{fit-of, of-fit, accepted-of}
+use Rattle.guarantee.proofs.Acts.{act-settled}
+use Rattle.guarantee.proofs.Kept.{charge-settled, length-charge}
+use Rattle.guarantee.proofs.Applied.{Left, named, apply-left}
+use Rattle.guarantee.proofs.Answered.{Good, good-answer}
+use Rattle.events.specs.Kinds.{Able}
+use Rattle.events.proofs.Laws.{act-ready}
+use Rattle.policy.specs.Needs.{Bounded}
+use Rattle.policy.proofs.Bounds.{bounded}
+use Rattle.scheduler.specs.Answers.{Answered, Begun}
+use Rattle.scheduler.specs.declared.Answer.{Answer}
+use Rattle.scheduler.specs.declared.Started.{Started}
+
+-- ---- start
+
+module _ (sheet h : List ℕ) (r : Started) where
+  pub start-refused : (o : Outcome) (f : Refusal) → o ≡ Refused f → outcomeOf o ≡ refusedSheet sheet → (r .outcome ≡ Refused f) × (r .state ≡ Doors.zeroState)
+      → Begun r h (Doors.start sheet h)
+  unfolding Doors.start Doors.refusedStart
+  start-refused o f e n (a, z) =
+      let k : refusedSheet sheet ≡ numberOf f = sym n ∙ ap outcomeOf e in
+      rw (k, never-zero f, never-zero f) (record { refusal = ap outcomeOf a; saved = ap (λ (s : State). saved s h) z })
+
+  pub start-short : refusedSheet sheet ≡ 0 → length h < wanted (freshState (settingsOf sheet)) → (r .outcome ≡ Refused Buffer) × (r .state ≡ Doors.zeroState)
+      → Begun r h (Doors.start sheet h)
+  unfolding Doors.start Doors.refusedStart
+  start-short e b (a, z) =
+      rw (e, lt-ltb (length h) (wanted (freshState (settingsOf sheet))) b) (record { refusal = ap outcomeOf a; saved = ap (λ (s : State). saved s h) z })
+
+pub start-fresh : (sheet h h′ : List ℕ) (s : State) (c : Settings) → refusedSheet sheet ≡ 0 → c ≡ settingsOf sheet → wanted (freshState c) ≤ length h
+    → h′ ≡ zeroRows (freshState c) h → s ≡ freshState c → Begun (record { outcome = Accepted; state = s }) h′ (Doors.start sheet h)
+unfolding Doors.start Doors.refusedStart
+start-fresh sheet h h′ s c e i b f g =
+    let b′ : wanted (freshState (settingsOf sheet)) ≤ length h = rw (← i) b in
+    rw (e, le-ltb (length h) (wanted (freshState (settingsOf sheet))) b′) (record { refusal = refl; saved = rw (g, f, i) })
+
+-- ---- after the charge of an event that is no resume
+
+module _ (s : State) (h b : List ℕ) (len : Lengths s) (a : Facts.Accepted s h b) (not-resume : kindOf b ≢ Event.resume) where
+  abbrev v : Saved
+  v = saved s h
+
+  abbrev x : State
+  x = charge v (stampOf b) .state
+
+  charged : Settled x (charge v (stampOf b) .history)
+  charged = charge-settled v b (len .used) (a .fit .room) (a .fit .sound) (a .short not-resume)
+
+  room : wanted x ≤ length (charge v (stampOf b) .history)
+  unfolding charge
+  room = rw (length-charge v b) (a .fit .room)
+
+  threads : length (x .threads) ≡ 64
+  unfolding charge
+  threads = len .threads
+
+  queue : length (x .queue) ≡ 64
+  unfolding charge
+  queue = len .queue
+
+  -- what a tick needs
+  pub can-move : (y : Saved) → y ≡ charge v (stampOf b) → Settled (y .state) (y .history) × (wanted (y .state) ≤ length (y .history))
+  can-move y e = subst (λ (z : Saved). Settled (z .state) (z .history) × (wanted (z .state) ≤ length (z .history))) (sym e) (charged, room)
+
+  -- there is room for a thread that becomes ready, because the queue with it is sound too
+  few : kindOf b ≡ Event.ready → x .queued < 64
+  few r =
+      let k = act-settled x b (charge v (stampOf b) .history) threads (named v b len a) charged in
+      let most : length (queueOf x ++ (threadOf b ∷ [])) ≤ 64 = subst (λ (y : State). y .queued ≤ 64) (act-ready x b r) (k .stored .few) in
+      omega (arith, length-append (queueOf x) (threadOf b ∷ []), length-take-le (x .queued) (x .queue) (omega (arith, charged .stored .few, queue)))
+
+  -- and what an action needs
+  pub can-act : (y : Saved) → y ≡ charge v (stampOf b) → Able (y .state) b
+  can-act y e = subst (λ (z : Saved). Able (z .state) b) (sym e) (record {
+    twelve = a .twelve;
+    thread-inside = a .named .thread-inside;
+    room = λ r. record { free = few r; zeros = charged .stored .zeros };
+  })
+
+-- ---- the two steps before the decision
+
+module _ (v : Saved) (b : List ℕ) where
+  pub applied-resume : kindOf b ≡ 7 → restart v (stampOf b) ≡ apply v b
+  unfolding apply
+  applied-resume e = rw e
+
+  pub applied-tick : kindOf b ≡ 1 → moveSlot (charge v (stampOf b)) ≡ apply v b
+  unfolding apply
+  applied-tick e = rw e
+
+  pub applied-other : (kindOf b ≡ 7 → ⊥) → (kindOf b ≡ 1 → ⊥) → (y : Saved) (r : State) → y ≡ charge v (stampOf b) → r ≡ act (y .state) b → saved r (y .history) ≡ apply v b
+  unfolding apply
+  applied-other n m y r e f =
+      ap (λ (z : State). saved z (y .history)) f ∙ ap (λ (z : Saved). saved (act (z .state) b) (z .history)) e
+      ∙ rw (ne-eqb (kindOf b) 7 n, ne-eqb (kindOf b) 1 m)
+
+-- ---- the decision
+
+-- what it needs
+pub can-decide : (s : State) (h b : List ℕ) → Lengths s → Facts.Accepted s h b → (y : Saved) → y ≡ apply (saved s h) b → Bounded (y .state)
+can-decide s h b len a y e =
+    let l : Left (saved s h) b (apply (saved s h) b) = apply-left (saved s h) b len a in
+    subst (λ (z : Saved). Bounded (z .state)) (sym e) (fair l)
+  where
+    fair : Left (saved s h) b (apply (saved s h) b) → Bounded (apply (saved s h) b .state)
+    fair l =
+        let k = l .settled in
+        bounded (apply (saved s h) b .state) (k .limits) (l .lengths .queue) (k .stored .few) (k .queue .inside)
+        (λ t m. let i = k .queue .inside t m in k .proper t i .partition (k .queue .exists t i (k .queue .ready t i ∙ m)))
+
+-- ---- the answers
+
+module _ (s : State) (h b : List ℕ) where
+  pub refused-by-event : refusedState s h ≡ 0 → refused s h b ≡ refusedEvent s b
+  unfolding refused
+  refused-by-event e = rw e
+
+  refused-by-state : (n : ℕ) → n ≡ refusedState s h → eqb n 0 ≡ false → refused s h b ≡ n
+  unfolding refused
+  refused-by-state n e f = rw (← e, f)
+
+  answer-no : (r : Refusal) → refused s h b ≡ numberOf r → Answered (record { verdict = verdict.Refused r; state = s }) h (answer (saved s h) b)
+  unfolding answer
+  answer-no r e = rw (e, never-zero r) (record { line = refl; after = refl })
+
+  -- a refusal by the state, and one by the event
+  pub no-by-state : (o : Outcome) (r : Refusal) → o ≡ Refused r → outcomeOf o ≡ refusedState s h → Answered (record { verdict = verdict.Refused r; state = s }) h (answer (saved s h) b)
+  no-by-state o r e f = answer-no r (refused-by-state (numberOf r) (sym (ap outcomeOf e) ∙ f) (never-zero r))
+
+  pub no-by-event : (o : Outcome) (r : Refusal) → refusedState s h ≡ 0 → o ≡ Refused r → outcomeOf o ≡ refusedEvent s b → Answered (record { verdict = verdict.Refused r; state = s }) h (answer (saved s h) b)
+  no-by-event o r g e f = answer-no r (refused-by-event g ∙ sym f ∙ ap outcomeOf e)
+
+  -- a decision
+  pub answer-yes : refused s h b ≡ 0 → (y : Saved) (d : Decision) → y ≡ apply (saved s h) b → decidedOf d ≡ decide (y .state)
+      → Answered (record { verdict = verdict.Decided d; state = withRunning (y .state) (d .thread) }) (y .history) (answer (saved s h) b)
+  unfolding answer settle
+  answer-yes e y d f g = record {
+    line = rw (e, ← f, ← g);
+    after = rw (e, ← f, ← g);
+  }
+
+-- ---- soundness is kept
+
+-- after an answer the next event needs no new test
+pub stays-sound : (s : State) (h b : List ℕ) → Lengths s → refusedState s h ≡ 0 → (r : Answer) (h′ : List ℕ) → Answered r h′ (answer (saved s h) b) → refusedState (r .state) h′ ≡ 0
+stays-sound s h b len e r h′ q =
+    let y = answer (saved s h) b .after in
+    let g : Good (s .settings) y = good-answer (s .settings) (saved s h) b (record { fit = fit-of s h e; lengths = len; settings = refl }) in
+    subst (λ (z : Saved). refusedState (z .state) (z .history) ≡ 0) (sym (q .after)) (of-fit (y .state) (y .history) (g .fit))
