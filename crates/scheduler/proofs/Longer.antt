@@ -1,9 +1,11 @@
 -- A run, one record more: its records, its state and history, its lines.
 use mathlib.Core.Path.{_≡_, refl, sym, ap, ap₂, _∙_}
 use Prim.Native.Nat.{ℕ, suc, _+_, _-_, _*_, _/_, _≤_, _<_, min}
+use mathlib.Core.Bool.{Bool, true, false, cond}
 use mathlib.Core.List.{List, [], _∷_, _++_, map, append-assoc, append-nil}
 use lib.ListN.{length, take, drop, length-append, length-take, length-drop, length-map, drop-of-length-le}
 use lib.Seq.{take-all, take-at, drop-at, drop-drop}
+use lib.Dec.{eqb}
 use native.Mathlib.Omega.{arith}
 use native.Mathlib.Numerals.{add-one}
 use native.Mathlib.Decide.{decLe}
@@ -22,7 +24,7 @@ use Rattle.model.specs.declared.State.{State}
 use Rattle.model.specs.Run.{Entry, run, after}
 use Rattle.model.specs.Answers.{Line, answerLine, textOf}
 use Rattle.guarantee.proofs.Answered.{Good, good-answer}
-use Rattle.scheduler.specs.Runs.{recordCount, recordAt, recordsOf, linesOf, Finished, takenBy, ran, linesAfter}
+use Rattle.scheduler.specs.Runs.{recordCount, recordAt, recordsOf, linesOf, Ran, Finished, takenBy, ran, linesAfter}
 
 -- ---- records
 
@@ -158,3 +160,12 @@ module _ (s : State) (h events out : List ℕ) where
       → Finished (record { outcome = Accepted; taken = n; state = t }) h′ (ran v events (length out)) × (out′ ≡ linesAfter v events out)
   unfolding ran linesAfter takenBy
   run-taken e n f t h′ out′ a l = rw (e, ← f) (record { refusal = refl; taken = refl; after = a }, l)
+
+-- the lines of what was taken fit the lent slice
+either : (room : ℕ) (b : Bool) (x y : Ran) → 12 * x .taken ≤ room → 12 * y .taken ≤ room → 12 * cond {A = Ran} b x y .taken ≤ room
+either room true x y h k = h
+either room false x y h k = k
+
+pub lines-fit : (w : Saved) (events : List ℕ) (room : ℕ) → 12 * ran w events room .taken ≤ room
+unfolding ran takenBy
+lines-fit w events room = either room (eqb (refusedState (w .state) (w .history)) 0) _ _ (omega arith) (omega arith)
