@@ -34,6 +34,14 @@ and-false : (a b : Bool) → (a && b) ≡ false → a ≡ true → b ≡ false
 and-false true b e q = e
 and-false false b e q = clash {b = false} q refl
 
+-- a number that refuses first, where it is not 0, and one that refuses after it are both 0
+pub state-first : (x n : ℕ) → cond (not (eqb x 0)) x n ≡ 0 → (x ≡ 0) × (n ≡ 0)
+state-first x n e = go (eqb x 0) refl e
+  where
+    go : (z : Bool) → eqb x 0 ≡ z → cond (not z) x n ≡ 0 → (x ≡ 0) × (n ≡ 0)
+    go true i q = (eqb-true x 0 i, q)
+    go false i q = absurd (eqb-false x 0 i q)
+
 pub accepted-of : (s : State) (h b : List ℕ) → refused s h b ≡ 0 → Accepted s h b
 unfolding refused refusedEvent tooLong namesThread wrongThread wrongPlace wrongReadiness
 accepted-of s h b e =
@@ -60,13 +68,6 @@ accepted-of s h b e =
       };
     }
   where
-    state-first : (x n : ℕ) → cond (not (eqb x 0)) x n ≡ 0 → (x ≡ 0) × (n ≡ 0)
-    state-first x n q = go (eqb x 0) refl q
-      where
-        go : (z : Bool) → eqb x 0 ≡ z → cond (not z) x n ≡ 0 → (x ≡ 0) × (n ≡ 0)
-        go true i q = (eqb-true x 0 i, q)
-        go false i q = absurd (eqb-false x 0 i q)
-
     on : Bool
     on = thread s (threadOf b) .exists
 

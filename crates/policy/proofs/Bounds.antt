@@ -1,6 +1,7 @@
 -- What gives the decision what it needs: facts of the queue's members, as soundness has them.
-use mathlib.Core.Path.{_≡_}
+use mathlib.Core.Path.{_≡_, _∙_}
 use mathlib.Core.Bool.{true}
+use mathlib.Core.List.{List}
 use Prim.Native.Nat.{ℕ, _≤_, _<_}
 use native.Mathlib.Omega.{arith}
 use lib.ListN.{length, getD}
@@ -8,6 +9,7 @@ use Rattle.lists.specs.Lists.{member}
 use Rattle.lists.proofs.Loops.{member-at}
 use Rattle.sheet.specs.Settings.{Limits}
 use Rattle.model.specs.State.{thread, queueOf}
+use Rattle.model.specs.Facts.{Settled}
 use Rattle.model.specs.declared.State.{State}
 use Rattle.policy.specs.Needs.{Bounded}
 
@@ -24,3 +26,9 @@ bounded s limits long few numbers valid = record {
   where
     queued : (i : ℕ) → i < s .queued → member (getD (s .queue) i 0) (queueOf s) ≡ true
     queued i b = member-at (s .queue) (s .queued) i (omega (arith, long, few)) b
+
+-- a state that is sound, but perhaps for its running thread, has it
+pub settled-bounded : (s : State) (h : List ℕ) → length (s .queue) ≡ 64 → Settled s h → Bounded s
+settled-bounded s h long k =
+    bounded s (k .limits) long (k .stored .few) (k .queue .inside)
+    (λ t m. let b = k .queue .inside t m in k .proper t b .partition (k .queue .exists t b (k .queue .ready t b ∙ m)))

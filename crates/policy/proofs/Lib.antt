@@ -3,3 +3,4 @@ pub mod Tallies
 pub mod Leads
 pub mod Elections
 pub mod Bounds
+pub mod Verdicts

@@ -1,4 +1,4 @@
-// The decision of document 01: which partition wins, and which of its threads runs on this core.
+// The decision of document 01: which partition wins, and which of its threads runs on this core; and the two doors that only look.
 ghost use mathlib.Core.Path.{_≡_};
 ghost use Rattle.model.specs.Answers.{decidedOf};
 ghost use Rattle.model.specs.Policy as Policy;
@@ -7,10 +7,14 @@ use model::Decision;
 use model::State;
 
 mod claims;
+mod doors;
 mod modes;
 mod orders;
 mod search;
 mod standings;
+
+pub use doors::decision;
+pub use doors::remaining;
 
 // The decision for a state. One pass over the queue says what each partition claims; passes over the partitions say how each stands, which
 // mode it is and how well the best stands; then the winner and its thread are searched for. The state is copied for the two functions that
