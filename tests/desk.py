@@ -1,0 +1,100 @@
+#!/usr/bin/env python3
+"""Runs the desk program beside what another scheduler printed, and on input that comes in odd ways.
+
+    tests/desk.py DESK REFERENCE    the two desk programs: ours, and the second scheduler's
+"""
+import random
+import resource
+import subprocess
+import sys
+import tempfile
+import time
+from pathlib import Path
+
+VECTORS = Path(__file__).resolve().parent / "vectors"
+SHEET = b"W 00 000004\nC 00 001000\nP 00 000000\nM 00 000000\nS 00 000050\nS 01 000050\n"
+
+
+def record(kind, stamp, thread=0, partition=0, priority=0, mask=0):
+    return bytes([kind, thread, partition, priority]) + (stamp % 2**32).to_bytes(4, "little") + bytes([mask, 0, 0, 0])
+
+
+def run(program, sheet, events, piece=0, memory=None):
+    """What the program prints for a sheet (None: no file; Path: a folder in its place) and events, fed in pieces of so many bytes."""
+    with tempfile.TemporaryDirectory() as folder:
+        if sheet is Path:
+            (Path(folder) / "shares.txt").mkdir()
+        elif sheet is not None:
+            (Path(folder) / "shares.txt").write_bytes(sheet)
+        if not piece:
+            done = subprocess.run([program], cwd=folder, input=events, stdout=subprocess.PIPE, stderr=subprocess.PIPE, timeout=120,
+                                  preexec_fn=memory and (lambda: resource.setrlimit(resource.RLIMIT_AS, (memory, memory))))
+            return done.stdout, done.stderr
+        process = subprocess.Popen([program], cwd=folder, stdin=subprocess.PIPE, stdout=subprocess.PIPE, stderr=subprocess.PIPE)
+        for at in range(0, len(events), piece):
+            process.stdin.write(events[at:at + piece])
+            process.stdin.flush()
+            time.sleep(0.002)
+        process.stdin.close()
+        return process.stdout.read(), process.stderr.read()
+
+
+def busy(count):
+    """A long stream of ticks, wakes and sleeps, some of them refused."""
+    draw = random.Random(count)
+    events = [record(2, 0, t, t % 2, draw.randrange(256), 1) for t in range(8)]
+    stamp = 0
+    while len(events) < count:
+        stamp += draw.choice((0, 200, 500, 1000, 3000))
+        events.append(draw.choice((record(1, stamp), record(3, stamp, draw.randrange(9)), record(4, stamp, draw.randrange(9)))))
+    return b"".join(events)
+
+
+def main():
+    desk, reference = (Path(p).resolve() for p in sys.argv[1:3])
+    wrong, tried = [], 0
+
+    def check(name, got, expected):
+        nonlocal tried
+        tried += 1
+        if got != (expected, b""):
+            wrong.append(name)
+            print(f"desk: {name}: expected {expected[:60]!r}, got {got[0][:60]!r} and {got[1][:60]!r} on standard error")
+
+    runs = sorted(p for p in VECTORS.iterdir() if p.is_dir())
+    for folder in runs:
+        sheet = folder / "shares.txt"
+        check(f"run {folder.name}", run(desk, sheet.read_bytes() if sheet.exists() else None, (folder / "events.bin").read_bytes()),
+              (folder / "expected.txt").read_bytes())
+
+    # a missing sheet, one that cannot be read, and one far too long are each refused with 1, and no event is answered
+    refused = b"01 0 00 000\n"
+    check("no shares.txt", run(desk, None, record(1, 0)), refused)
+    check("a folder called shares.txt", run(desk, Path, record(1, 0)), refused)
+    check("a sheet of a megabyte", run(desk, SHEET * 14000, record(1, 0)), refused)
+    check("S 01 0000,5", run(desk, SHEET[:60] + b"S 01 0000,5\n", record(1, 0)), b"02 0 00 000\n")
+
+    # no events, and a cut last one
+    check("no events", run(desk, SHEET, b""), b"")
+    check("one byte", run(desk, SHEET, b"\x01"), b"14 0 00 000\n")
+    check("a cut last event", run(desk, SHEET, record(1, 0) + record(1, 500)[:11]), b"00 0 00 255\n14 0 00 000\n")
+
+    # short reads, and streams around the size of a chunk
+    small = busy(60) + b"\x01\x02"
+    expected = run(reference, SHEET, small)[0]
+    for piece in (1, 5, 13):
+        check(f"pieces of {piece} bytes", run(desk, SHEET, small, piece), expected)
+    for count in (5460, 5461, 5462, 10922, 20000):
+        for cut in (0, 7):
+            stream = busy(count) + bytes(cut)
+            check(f"{count} events and {cut} bytes", run(desk, SHEET, stream), run(reference, SHEET, stream)[0])
+
+    # a million events, 12 MB of them, in 8 MB: what the program holds does not grow with the stream
+    stream = busy(5000) * 200
+    check("a million events", run(desk, SHEET, stream, memory=2**23), run(reference, SHEET, stream)[0])
+    print(f"desk: {tried - len(wrong)} of {tried} inputs answered as expected, {len(runs)} of them runs of another scheduler")
+    sys.exit(bool(wrong))
+
+
+if __name__ == "__main__":
+    main()

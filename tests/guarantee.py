@@ -1,0 +1,88 @@
+#!/usr/bin/env python3
+"""Document 01's example of the guarantee, on a hostile list of events: W 100, C 1000, four partitions, share 10: at least 7,750 cycles
+in 200 ticks. The partition with 10 percent waits throughout, at the lowest priority; the others wake, sleep and change priority so as to
+run past their budgets as far as they can. What was charged is worked out here from the events and the printed lines alone.
+
+    tests/guarantee.py DESK
+"""
+import random
+import subprocess
+import sys
+import tempfile
+from pathlib import Path
+
+WINDOW, TICK = 100, 1000
+SHARES = (40, 10, 25, 25)
+WAITING, BOUND = 1, 7750
+
+
+def record(kind, stamp, thread=0, partition=0, priority=0, mask=0):
+    return bytes([kind, thread, partition, priority]) + (stamp % 2**32).to_bytes(4, "little") + bytes([mask, 0, 0, 0])
+
+
+def hostile(seed, rounds):
+    """A list of events in which the waiting partition is kept back as long as the rules allow. In each round the others sleep for ten ticks of
+    double length, so that it runs far past its budget at the end of a window; then they wake above it for more than two windows of full
+    ticks, and sleep, wake and change priority at odd moments, so that each runs past its own budget too."""
+    draw = random.Random(seed)
+    stamp = 2**32 - 50 * TICK
+    events = [(7, record(7, stamp), stamp)]
+    for partition in range(4):
+        priority = 1 if partition == WAITING else 100 + partition
+        events.append((2, record(2, stamp, partition, partition, priority, 1), stamp))
+    events.append((3, record(3, stamp, WAITING), stamp))
+    for _ in range(rounds):
+        for _ in range(10):
+            stamp += 2 * TICK
+            events.append((1, record(1, stamp), stamp))
+        events += [(3, record(3, stamp, other), stamp) for other in (0, 2, 3)]
+        for _ in range(3 * WINDOW):
+            moves = []
+            for other in (0, 2, 3):
+                if draw.random() < seed / 100:
+                    away, back = sorted(draw.sample(range(TICK), 2))
+                    moves += [(away, 4, other), (back, 3, other)]
+                elif draw.random() < seed / 100:
+                    moves.append((draw.randrange(TICK), 5, other))
+            for offset, kind, other in sorted(moves):
+                priority = draw.randrange(2, 256) if kind == 5 else 0
+                events.append((kind, record(kind, stamp + offset, other, priority=priority), stamp + offset))
+            stamp += TICK
+            events.append((1, record(1, stamp), stamp))
+        events += [(4, record(4, stamp, other), stamp) for other in (0, 2, 3)]
+    return events
+
+
+def stretches(events, lines):
+    """What the waiting partition is charged in each stretch: from a tick to the 200th after it, each a full tick period after the last.
+    All events of the list are accepted."""
+    ticks, total, runs, old = [], 0, False, None
+    for (kind, _, stamp), line in zip(events, lines, strict=True):
+        assert line[:2] == b"00", line
+        if runs and kind != 7:
+            total += stamp - old
+        runs, old = line[3:4] != b"0" and int(line[5:7]) == WAITING, stamp
+        if kind == 1:
+            ticks.append((stamp, total))
+    for (opening, before), (closing, after) in zip(ticks, ticks[2 * WINDOW:]):
+        if closing - opening == 2 * WINDOW * TICK:
+            yield after - before
+
+
+def main():
+    desk = Path(sys.argv[1]).resolve()
+    sheet = "W 00 %06d\nC 00 %06d\nP 00 000000\nM 00 000000\n" % (WINDOW, TICK) + "".join("S %02d %06d\n" % s for s in enumerate(SHARES))
+    found = []
+    for policy in (0, 1):
+        for seed in range(12):
+            events = hostile(seed, 4)
+            with tempfile.TemporaryDirectory() as folder:
+                (Path(folder) / "shares.txt").write_text(sheet.replace("P 00 000000", "P 00 %06d" % policy))
+                out = subprocess.run([desk], cwd=folder, input=b"".join(e[1] for e in events), stdout=subprocess.PIPE, timeout=60, check=True).stdout
+            found += stretches(events, [out[i:i + 12] for i in range(0, len(out), 12)])
+    print(f"guarantee: at least {min(found)} cycles in each of {len(found)} stretches of 200 ticks; {BOUND} are promised")
+    sys.exit(min(found) < BOUND)
+
+
+if __name__ == "__main__":
+    main()
