@@ -14,7 +14,9 @@ use native.Mathlib.Decide.{decLt}
 use native.Mathlib.Nat.{zero-mod, suc-mod, mod-lt}
 use Rattle.lists.specs.Lists.{below, any, sum, consIf, keep}
 use Rattle.lists.proofs.Tests.{clash}
-use Rattle.lists.proofs.Indexing.{table-length, table-at, zeros-of}
+use Rattle.lists.proofs.All.{all-zeros}
+use Rattle.lists.proofs.Tables.{table-length, table-at}
+use Rattle.lists.proofs.Parts.{row-of, row-get}
 use Rattle.units.specs.Units.{elapsedOf}
 use Rattle.units.specs.declared.Cycles.{Cycles}
 use Rattle.sheet.specs.Settings.{W, Limits}
@@ -30,7 +32,6 @@ use Rattle.model.specs.Doors.{refusedStart}
 use Rattle.model.specs.declared.Thread.{Thread}
 use Rattle.model.specs.declared.State.{State}
 use Rattle.model.specs.Facts.{Settled}
-use Rattle.model.proofs.Rows.{row-of, row-get}
 use Rattle.guarantee.specs.Demand3 as demand
 use Rattle.guarantee.specs.Demand3.{Last, chargeOf}
 use Rattle.guarantee.specs.Ledger.{addFirst, ledger, acceptedOf}
@@ -100,7 +101,7 @@ module _ (c : Settings) (es : List (List ℕ)) (v : Saved) (m : View c es v) whe
       let n : length rest ≡ 64 - length (queueFrom es) = rw (length-drop (s .queued) (s .queue), m .good .lengths .queue, queued-is) in
       sym (take-append-drop (s .queued) (s .queue))
       ∙ ap (λ (l : List ℕ). l ++ rest) (m .queue)
-      ∙ ap (λ (l : List ℕ). queueFrom es ++ l) (zeros-of rest (k .stored .zeros) ∙ ap (λ (i : ℕ). replicate {A = ℕ} i 0) n)
+      ∙ ap (λ (l : List ℕ). queueFrom es ++ l) (all-zeros rest (k .stored .zeros) ∙ ap (λ (i : ℕ). replicate {A = ℕ} i 0) n)
 
   abbrev totals : ℕ → Cycles
   totals = λ p. cycles (usedFrom c es p)
@@ -109,9 +110,9 @@ module _ (c : Settings) (es : List (List ℕ)) (v : Saved) (m : View c es v) whe
   unfolding decisionOf
   decided = decide-same s (picture c (recordFrom es) (queueFrom es) (usedFrom c es)) (m .good .settings)
       (ext-getD (cycles 0) (s .used) (map totals (below 16)) (m .good .lengths .used ∙ sym (table-length totals 16))
-      (λ p b. ap cycles (total-is p) ∙ sym (table-at totals (cycles 0) 16 p (rw (m .good .lengths .used) at b))))
+      (λ p b. ap cycles (total-is p) ∙ sym (table-at totals 16 p (cycles 0) (rw (m .good .lengths .used) at b))))
       (ext-getD absent (s .threads) (map (recordFrom es) (below 64)) (m .good .lengths .threads ∙ sym (table-length (recordFrom es) 64))
-      (λ t b. m .threads t ∙ sym (table-at (recordFrom es) absent 64 t (rw (m .good .lengths .threads) at b))))
+      (λ t b. m .threads t ∙ sym (table-at (recordFrom es) 64 t absent (rw (m .good .lengths .threads) at b))))
       stored-is queued-is
 
 -- ---- the charges of the account

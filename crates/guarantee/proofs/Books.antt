@@ -10,8 +10,8 @@ use lib.Dec.{eqb}
 use borrow.Author.Tests.{eqb-true, eqb-false, eq-eqb, ne-eqb}
 use native.Mathlib.Omega.{arith}
 use Rattle.lists.specs.Lists.{sum, total}
-use Rattle.lists.proofs.Totals.{total-mono, total-add, total-zero, only-total}
-use Rattle.lists.proofs.ListSums.{sum-set, total-ext}
+use Rattle.lists.proofs.Sums.{total-mono, total-add, total-zero, only-total, sum-set, total-ext}
+use Rattle.lists.proofs.Parts.{row-of, row-get, row-length}
 use Rattle.units.specs.declared.Cycles.{Cycles}
 use Rattle.sheet.specs.Settings.{W, C, Limits}
 use Rattle.sheet.specs.declared.Settings.{Settings}
@@ -19,7 +19,6 @@ use Rattle.model.specs.State.{used}
 use Rattle.model.specs.Step.{addUsed, addHistory, clearHistory, lowerUsed}
 use Rattle.model.specs.Facts.{Books, Rest, usedAt, charges}
 use Rattle.model.specs.declared.State.{State}
-use Rattle.model.proofs.Rows.{row-of, row-get, row-length}
 use Rattle.guarantee.specs.Scheduler.{share, charge}
 use Rattle.guarantee.proofs.Charges.{row-charge, row-clear, used-charge, lower-past, lower-at}
 

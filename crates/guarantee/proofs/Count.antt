@@ -14,7 +14,7 @@ use native.Mathlib.Omega.{arith}
 use native.Mathlib.Decide.{decLe}
 use borrow.Author.Tests.{eqb-true}
 use Rattle.lists.specs.Lists.{total}
-use Rattle.lists.proofs.Totals.{total-add, total-mono, total-zero, only, only-total}
+use Rattle.lists.proofs.Sums.{total-add, total-mono, total-zero, only, only-total}
 use Rattle.guarantee.specs.Scheduler.{tick, other, Entry, Stretch, closed, at-tick, between}
 
 -- Whose time is running: no one's, the waiting partition's, or that of account a.

@@ -8,7 +8,7 @@ use mathlib.Core.List.{List}
 use native.Mathlib.Omega.{arith}
 use Rattle.lists.specs.Lists.{any}
 use Rattle.lists.proofs.Tests.{clash}
-use Rattle.lists.proofs.Lists.{below-any}
+use Rattle.lists.proofs.All.{below-any}
 use Rattle.model.specs.State.{thread, queueOf, idle}
 use Rattle.model.specs.Policy
 use Rattle.model.specs.Policy.{Decided, competing, mode, winner, chosen, decideFor, decide}

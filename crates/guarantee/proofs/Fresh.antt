@@ -10,8 +10,8 @@ use borrow.Author.Tests.{eqb-true, eqb-false, ltb-false}
 use native.Mathlib.Omega.{arith}
 use native.Mathlib.Decide.{decLt}
 use Rattle.lists.specs.Lists.{any, distinct}
-use Rattle.lists.proofs.Totals.{total-at}
 use Rattle.lists.proofs.Tests.{clash, passes}
+use Rattle.lists.proofs.Sums.{total-at}
 use Rattle.units.specs.declared.Percent.{Percent}
 use Rattle.sheet.specs.Settings.{W, share, Limits}
 use Rattle.sheet.specs.Sheet.{settingsOf, refusedSheet}

@@ -9,7 +9,7 @@ use borrow.Author.Tests.{eqb-true, eq-eqb, ne-eqb}
 use native.Mathlib.Omega.{arith}
 use Rattle.lists.specs.Lists.{member}
 use Rattle.lists.proofs.Tests.{both}
-use Rattle.lists.proofs.Lists.{any-below}
+use Rattle.lists.proofs.All.{any-below}
 use Rattle.sheet.specs.declared.Settings.{Settings}
 use Rattle.model.specs.State.{thread, queueOf, allows}
 use Rattle.model.specs.Event

@@ -7,6 +7,7 @@ use lib.ListN.{length, drop, length-set}
 use lib.Dec.{eqb}
 use borrow.Author.Tests.{eqb-true}
 use native.Mathlib.Omega.{arith}
+use Rattle.lists.proofs.Parts.{row-of}
 use Rattle.sheet.specs.Settings.{W, Limits}
 use Rattle.sheet.specs.declared.Settings.{Settings}
 use Rattle.model.specs.Event
@@ -14,7 +15,6 @@ use Rattle.model.specs.Event.{kindOf, elapsedAt, stampOf}
 use Rattle.model.specs.State.{wanted}
 use Rattle.model.specs.Step.{Saved, Answer, billed, settle, restart, apply}
 use Rattle.model.specs.Run.{Entry}
-use Rattle.model.proofs.Rows.{row-of}
 use Rattle.guarantee.specs.Demand3 as demand
 use Rattle.guarantee.specs.Demand3.{Last, lastOf, chargeOf}
 use Rattle.guarantee.specs.Ledger.{addFirst, ledger}

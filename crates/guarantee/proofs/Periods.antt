@@ -7,7 +7,7 @@ use lib.Seq.{take-take}
 use native.Mathlib.Omega.{arith}
 use native.Mathlib.Nat.{not-suc-le-zero}
 use Rattle.lists.specs.Lists.{sum}
-use Rattle.lists.proofs.ListSums.{sum-zeros}
+use Rattle.lists.proofs.Sums.{sum-zeros}
 use Rattle.guarantee.specs.Ledger.{addFirst}
 use Rattle.guarantee.proofs.Window.{add-first, shift, window, newest-le-sum}
 

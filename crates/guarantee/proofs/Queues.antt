@@ -12,7 +12,7 @@ use native.Mathlib.Omega.{arith}
 use native.Mathlib.Decide.{ℕ-discrete}
 use Rattle.lists.specs.Lists.{any, all, member, distinct}
 use Rattle.lists.proofs.Tests.{clash, both}
-use Rattle.lists.proofs.Lists.{member-append, member-without, without, distinct-append, distinct-keep, pigeonhole}
+use Rattle.lists.proofs.All.{member-append, member-without, without, distinct-snoc, distinct-keep, pigeonhole}
 use Rattle.model.specs.State.{absent, queueOf}
 use Rattle.model.specs.Step.{withQueue, leaves}
 use Rattle.model.specs.declared.Thread.{Thread}
@@ -69,7 +69,7 @@ module _ (ts : List Thread) (t : ℕ) (r : Thread) (inside : t < length ts) wher
   pub queue-joins : (q : List ℕ) → t < 64 → ReadyQueue ts q → member t q ≡ false → r .ready ≡ true → r .exists ≡ true
       → ReadyQueue (set ts t r) (q ++ (t ∷ []))
   unfolding any
-  queue-joins q b l out rdy ex = queue-set q (q ++ (t ∷ [])) l (distinct-append q t (l .once) out) few others (rdy ∙ sym here) (λ x. ex)
+  queue-joins q b l out rdy ex = queue-set q (q ++ (t ∷ [])) l (distinct-snoc q t ∙ rw (l .once, out)) few others (rdy ∙ sym here) (λ x. ex)
     where
       here : member t (q ++ (t ∷ [])) ≡ true
       here = rw (member-append t q (t ∷ []), out, eq-eqb t t refl)

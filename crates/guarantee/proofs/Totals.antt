@@ -5,13 +5,13 @@ use mathlib.Core.List.{List, [], _∷_}
 use lib.ListN.{drop, length, take}
 use native.Mathlib.Omega.{arith}
 use Rattle.lists.specs.Lists.{sum}
+use Rattle.lists.proofs.Parts.{row-of}
 use Rattle.sheet.specs.Settings.{W}
 use Rattle.sheet.specs.Sheet.{settingsOf}
 use Rattle.sheet.specs.declared.Settings.{Settings}
 use Rattle.model.specs.State.{used}
 use Rattle.model.specs.Step.{Saved, billed}
 use Rattle.model.specs.Run.{run, fresh, after}
-use Rattle.model.proofs.Rows.{row-of}
 use Rattle.guarantee.specs.Demand3.{Last}
 use Rattle.guarantee.specs.Ledger.{ledger, nobody, Totals}
 use Rattle.guarantee.proofs.Window.{window, window-sum}

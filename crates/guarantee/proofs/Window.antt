@@ -12,7 +12,7 @@ use native.Mathlib.Omega.{arith}
 use native.Mathlib.Decide.{decLt}
 use native.Mathlib.Nat.{mod-eq-of-lt, mod-self, not-suc-le-zero}
 use Rattle.lists.specs.Lists.{sum}
-use Rattle.lists.proofs.ListSums.{sum-append, sum-reverse}
+use Rattle.lists.proofs.Sums.{sum-append, sum-reverse}
 
 -- a charge, a tick
 abbrev pub add-first : ℕ → List ℕ → List ℕ

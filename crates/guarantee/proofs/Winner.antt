@@ -9,7 +9,7 @@ use native.Mathlib.Decide.{decLt}
 use native.Mathlib.Nat.{not-suc-le-zero}
 use Rattle.lists.specs.Lists.{any}
 use Rattle.lists.proofs.Tests.{clash, and}
-use Rattle.lists.proofs.Lists.{below-any}
+use Rattle.lists.proofs.All.{below-any}
 use Rattle.model.specs.Policy
 use Rattle.model.specs.Policy.{competing, hasBudget, mode, before, best, better, winner, byBudget, ratioPolicy}
 use Rattle.model.specs.declared.State.{State}

@@ -6,8 +6,8 @@ use native.Mathlib.Omega.{arith}
 use native.Mathlib.Numerals.{add-one}
 use lib.ListN.{length, getD, set, take, drop, length-set, length-take, length-drop}
 use Rattle.lists.specs.Lists.{sum}
+use Rattle.lists.proofs.Sums.{entry-le}
 use Rattle.lists.proofs.Parts.{part-set, part-at, row-end}
-use Rattle.lists.proofs.RunningSums.{number-at-most}
 use Rattle.units.specs.declared.Cycles.{Cycles}
 use Rattle.model.specs.Step.{cycles, clearHistory, lowerUsed}
 use Rattle.history.specs.History.{Covered}
@@ -33,4 +33,4 @@ pub covered : (w k n : ℕ) (u : List Cycles) (h : List ℕ) → k < w → n * w
 covered w k n u h inside room totals p b =
     let row : List ℕ = take w (drop (p * w) h) in
     let long : k < length row = simp (length-take, length-drop) (omega (arith, row-end p n w b)) in
-    omega (arith, totals p b, number-at-most row k long, part-at h (p * w) w k inside)
+    omega (arith, totals p b, entry-le row k long, part-at h (p * w) w k inside)

@@ -29,13 +29,6 @@ same true b f g = rw (f refl)
 same false true f g = g refl
 same false false f g = refl
 
-pub is-T : {b : Bool} → b ≡ true → T b
-is-T e = rw e tt
-
-pub of-T : (b : Bool) → T b → b ≡ true
-of-T true h = refl
-of-T false h = absurd h
-
 -- a refusal by k if the test holds, or what comes after it, is none
 pub passes : (b : Bool) (k n : ℕ) → T (ltb 0 k) → cond b k n ≡ 0 → (b ≡ false) × (n ≡ 0)
 passes true k n h e = let w : ⊥ = omega (arith, ltb→lt 0 k h) in absurd w

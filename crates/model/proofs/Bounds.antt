@@ -10,8 +10,8 @@ use borrow.Author.Tests.{eqb-false}
 use native.Mathlib.Omega.{arith}
 use native.Mathlib.Nat.{mul-le-mul-right}
 use Rattle.lists.specs.Lists.{sum}
-use Rattle.lists.proofs.Totals.{total-at}
-use Rattle.lists.proofs.ListSums.{entry-le, sum-le}
+use Rattle.lists.proofs.Sums.{total-at, entry-le, sum-le}
+use Rattle.lists.proofs.Parts.{row-of, in-rows, row-get, row-length}
 use Rattle.units.specs.declared.Cycles.{Cycles}
 use Rattle.sheet.specs.Settings.{W, C, Limits}
 use Rattle.sheet.specs.declared.Settings.{Settings}
@@ -19,7 +19,6 @@ use Rattle.model.specs.State.{used, place, wanted}
 use Rattle.model.specs.Step.{next}
 use Rattle.model.specs.Facts.{Books, Settled, usedAt, charges}
 use Rattle.model.specs.declared.State.{State}
-use Rattle.model.proofs.Rows.{row-of, in-rows, row-get, row-length}
 
 module _ (c : Settings) (u : List Cycles) (slot since : ℕ) (h : List ℕ) (lim : Limits c) (room : c .count * W c ≤ length h) (b : Books c u slot since h) where
   -- a number of the history's rows

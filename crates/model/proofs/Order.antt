@@ -7,12 +7,12 @@ use lib.Dec.{eqb, ltb}
 use borrow.Author.Tests.{eqb-true, eqb-false, eq-eqb, ne-eqb, ltb-true, ltb-false, le-ltb}
 use native.Mathlib.Omega.{arith}
 use native.Mathlib.Nat.{mul-le-mul-right, le-of-mul-le-mul-right}
+use Rattle.lists.proofs.Tests.{clash, neither, both}
 use Rattle.sheet.specs.Settings.{budget}
 use Rattle.units.specs.Units.{smallerFraction}
 use Rattle.model.specs.State.{used}
 use Rattle.model.specs.Policy.{hasBudget, topPriority, betterFraction, byBudget, byPriority, ratioPolicy, before, atLimit, freeTime}
 use Rattle.model.specs.declared.State.{State}
-use Rattle.lists.proofs.Tests.{clash, neither, both}
 
 pub record Weak (R : ℕ → ℕ → Bool) : Type 0 where
   pub asym : (a b : ℕ) → R a b ≡ true → R b a ≡ false

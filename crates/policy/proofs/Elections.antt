@@ -10,8 +10,7 @@ use lib.ListN.{getD}
 use lib.Dec.{eqb}
 use Rattle.lists.specs.Lists.{below, any, keep, first}
 use Rattle.lists.proofs.Tests.{clash}
-use Rattle.lists.proofs.Lists.{any-below}
-use Rattle.lists.proofs.Loops.{keep-both}
+use Rattle.lists.proofs.All.{any-below, keep-both}
 use Rattle.model.specs.State.{thread, queueOf, allows, idle}
 use Rattle.model.specs.Policy
 use Rattle.model.specs.Policy.{candidates, competing, topPriority, mode, idleMode, winner, chosen, decideFor, decide}

@@ -8,8 +8,8 @@ use lib.Dec.{eqb}
 use lib.ListN.{length, getD, take, drop, set, replicate, length-append, length-take, length-drop, take-append-drop}
 use lib.Seq.{length-take-le, append-snoc, set-at, take-append-seam}
 use Rattle.lists.specs.Lists.{consIf}
-use Rattle.lists.proofs.Lists.{length-keep}
-use Rattle.lists.proofs.Prefixes.{keep-more, all-zeros}
+use Rattle.lists.proofs.All.{length-keep, all-zeros}
+use Rattle.lists.proofs.Loops.{keep-take}
 use Rattle.model.specs.Step.{leaves}
 use Rattle.model.specs.declared.State.{State}
 use Rattle.queue.specs.declared.Queue.{Queue}
@@ -78,7 +78,7 @@ leaves-few l t i = omega (arith, length-keep (λ u. not (eqb u t)) (take i l), l
 
 leaves-more : (l : List ℕ) (t i : ℕ) → i < length l → leaves (take (i + 1) l) t ≡ leaves (take i l) t ++ consIf (not (eqb (getD l i 0) t)) (getD l i 0) []
 unfolding leaves
-leaves-more l t i h = keep-more (λ u. not (eqb u t)) l i h
+leaves-more l t i h = keep-take (λ u. not (eqb u t)) l i h
 
 -- one more entry read
 pub left-more : (l : List ℕ) (t i : ℕ) (q r : Queue) → i < length l → q ≡ queueFrom (leaves (take i l) t)

@@ -10,7 +10,7 @@ use native.Mathlib.Numerals.{add-one}
 use native.Mathlib.Decide.{ℕ-discrete}
 use borrow.Author.Tests.{eq-eqb, ne-eqb}
 use Rattle.lists.specs.Lists.{any, member}
-use Rattle.lists.proofs.Lists.{member-append}
+use Rattle.lists.proofs.All.{member-append}
 use Rattle.soundness.specs.Marked.{Holds}
 
 pub unmarked : Holds (replicate 256 false) []

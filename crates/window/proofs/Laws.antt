@@ -1,5 +1,5 @@
 -- What the steps need of a sound state, and their results as the model's.
-use mathlib.Core.Path.{_≡_, refl, sym, ap, _∙_}
+use mathlib.Core.Path.{_≡_, refl, _∙_}
 use Prim.Native.Nat.{ℕ, _+_, _*_, _≤_, _<_, _^_}
 use mathlib.Core.Bool.{Bool, true, false, cond}
 use mathlib.Core.List.{List}
@@ -13,7 +13,7 @@ use Rattle.units.specs.declared.Cycles.{Cycles}
 use Rattle.units.specs.declared.Ticks.{Ticks}
 use Rattle.sheet.specs.Settings.{W, C}
 use Rattle.model.specs.State.{thread, used, wanted}
-use Rattle.model.specs.Facts.{Settled, Sound}
+use Rattle.model.specs.Facts.{Sound}
 use Rattle.model.specs.Step.{saved, cycles, withClock, withUsed, billed, addUsed, addHistory, charge, next, clearHistory, lowerUsed, moveSlot, zeroRows, restart}
 use Rattle.model.specs.declared.State.{State}
 use Rattle.model.proofs.Bounds.{charge-fits, total-fits}
