@@ -14,10 +14,11 @@ use Rattle.lists.proofs.All.{any-below, keep-both}
 use Rattle.model.specs.State.{thread, queueOf, allows, idle}
 use Rattle.model.specs.Policy
 use Rattle.model.specs.Policy.{candidates, competing, topPriority, mode, idleMode, winner, chosen, decideFor, decide}
+use Rattle.model.specs.Choices.{Won}
 use Rattle.model.specs.Answers.{modeOf}
 use Rattle.model.specs.declared.Mode.{Mode}
 use Rattle.model.specs.declared.State.{State}
-use Rattle.model.proofs.Winner.{Won, irreflexive, winner-won, winner-none}
+use Rattle.model.proofs.Winner.{irreflexive, winner-won, winner-none}
 use Rattle.policy.specs.Needs.{Bounded}
 use Rattle.policy.specs.Claims.{mayRun}
 use Rattle.policy.specs.Standings.{nothing, standing, Standings}
