@@ -60,11 +60,6 @@ module _ (s : State) where
 
 -- ---- the history after slot k is cleared for every partition below n
 
-pub clear-length : (w k n : ℕ) (h : List ℕ) → length (clearHistory w k n h) ≡ length h
-unfolding clearHistory
-clear-length w k zero h = refl
-clear-length w k (suc n) h = length-set (clearHistory w k n h) (n * w + k) 0 ∙ clear-length w k n h
-
 pub clear-past : (w k m n : ℕ) (h : List ℕ) → k < w → n ≤ m → drop (m * w) (clearHistory w k n h) ≡ drop (m * w) h
 unfolding clearHistory
 clear-past w k m zero h a b = refl

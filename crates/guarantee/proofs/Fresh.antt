@@ -2,7 +2,7 @@
 use mathlib.Core.Path.{_≡_, refl, ap}
 use Prim.Native.Nat.{ℕ, _*_, _≤_, _<_}
 use mathlib.Core.Bool.{Bool, false, cond, true, not}
-use mathlib.Core.List.{List, []}
+use mathlib.Core.List.{List}
 use lib.ListN.{drop, length, replicate, length-replicate, getD-replicate, List·getD-eq-default}
 use lib.Seq.{drop-at}
 use lib.Dec.{ltb, eqb}

@@ -1,14 +1,17 @@
 -- Lists by their places: the numbers below n, a table of f 0, f 1, .. that is filled from the front, and what stands at a place.
 use mathlib.Core.Path.{_≡_, refl, sym, ap, _∙_}
+use mathlib.Core.Bool.{true}
 use Prim.Native.Nat.{ℕ, zero, suc, _+_, _-_, _≤_, _<_}
 use mathlib.Core.List.{List, [], _∷_, _++_, map, append-assoc, append-nil, map-append, reverse, reverse-cons}
-use lib.ListN.{length, getD, set, replicate, length-append, length-map, length-reverse, List·getD-append, List·getD-map}
-use lib.Seq.{set-at, getD-at, getD-append-seam}
+use lib.ListN.{length, getD, set, take, drop, replicate, length-append, length-map, length-drop, length-reverse, take-append-drop, List·getD-append, List·getD-map}
+use lib.Seq.{set-at, getD-at, getD-append-seam, length-take-le}
+use lib.Dec.{eqb}
 use native.Mathlib.Omega.{arith}
 use native.Mathlib.Numerals.{add-one}
 use native.Mathlib.Nat.{not-suc-le-zero, add-zero}
 use native.Mathlib.Decide.{decLt}
-use Rattle.lists.specs.Lists.{below}
+use Rattle.lists.specs.Lists.{below, all}
+use Rattle.lists.proofs.All.{all-zeros}
 
 -- ---- a table
 
@@ -87,6 +90,13 @@ filled-at [] (suc n) zero = refl
 filled-at [] (suc n) (suc i) = filled-at [] n i
 filled-at (y ∷ ys) n zero = refl
 filled-at (y ∷ ys) n (suc i) = filled-at ys n i
+
+-- a list of m numbers, all zero after the first n
+pub zeros-after : (l : List ℕ) (n m : ℕ) → length l ≡ m → n ≤ m → all (eqb 0) (drop n l) ≡ true → l ≡ take n l ++ replicate (m - length (take n l)) 0
+zeros-after l n m full few rest =
+    let c : length (take n l) ≡ n = length-take-le n l (omega arith) in
+    let d : length (drop n l) ≡ m - length (take n l) = rw (length-drop, c) (omega arith) in
+    sym (take-append-drop n l) ∙ ap (λ (r : List ℕ). take n l ++ r) (all-zeros (drop n l) rest ∙ ap (λ (k : ℕ). replicate k 0) d)
 
 -- ---- a list of known length, taken apart place by place
 
