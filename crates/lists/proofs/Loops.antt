@@ -55,7 +55,7 @@ module _ (f : ℕ → Bool) (l : List ℕ) (i : ℕ) (h : i < length l) where
   pub all-take : (all f (take i l) && f (getD l i 0)) ≡ all f (take (i + 1) l)
   all-take = rw (add-one, take-suc l i 0 h) (all-snoc f (take i l) (getD l i 0))
 
-  any-take : any f (take (i + 1) l) ≡ (any f (take i l) || f (getD l i 0))
+  pub any-take : any f (take (i + 1) l) ≡ (any f (take i l) || f (getD l i 0))
   any-take = rw (add-one, take-suc l i 0 h) (any-snoc f (take i l) (getD l i 0))
 
   pub keep-take : keep f (take (i + 1) l) ≡ keep f (take i l) ++ consIf (f (getD l i 0)) (getD l i 0) []

@@ -94,6 +94,3 @@ shaped s g =
       queued = fields .1 .1 .1 .1 .1 .1 .1 .0 .1;
       running = fields .1 .1 .1 .1 .1 .1 .1 .1 .0 .1;
     }
-
-pub settings-shaped : (c : Settings) {vs : List Val} → Is Settings.the-row c vs → (length (c .shares) ≡ 16) × SettingsTyped c
-settings-shaped c {vs} g = settings-fit c vs g
