@@ -3,9 +3,9 @@ use mathlib.Core.Logic.{_≢_}
 use mathlib.Core.Path.{_≡_, refl, sym, ap, subst, _∙_}
 use Prim.Native.Nat.{ℕ, suc, _+_, _-_, _*_, _%_, _≤_, _<_}
 use mathlib.Core.Bool.{Bool, true, false, not, cond, _||_}
-use mathlib.Core.Option.{Option, none, some}
+use mathlib.Core.Option.{none, some}
 use mathlib.Core.List.{List, [], _∷_, _++_, map, reverseAux}
-use lib.ListN.{length, getD, drop, replicate, length-drop, length-replicate, take-append-drop, getD-replicate, List·getD-eq-default}
+use lib.ListN.{length, getD, drop, replicate, length-drop, length-replicate, getD-replicate, List·getD-eq-default}
 use lib.Seq.{ext-getD, length-take-le, drop-at}
 use lib.Dec.{eqb}
 use borrow.Author.Tests.{eqb-true, ne-eqb}
@@ -14,7 +14,8 @@ use native.Mathlib.Decide.{decLt}
 use native.Mathlib.Nat.{zero-mod, suc-mod, mod-lt}
 use Rattle.lists.specs.Lists.{below, any, sum, consIf, keep}
 use Rattle.lists.proofs.Tests.{clash}
-use Rattle.lists.proofs.Indexing.{table-length, table-at, zeros-of}
+use Rattle.lists.proofs.Tables.{table-length, table-at, zeros-after}
+use Rattle.lists.proofs.Parts.{row-of, row-get}
 use Rattle.units.specs.Units.{elapsedOf}
 use Rattle.units.specs.declared.Cycles.{Cycles}
 use Rattle.sheet.specs.Settings.{W, Limits}
@@ -30,14 +31,15 @@ use Rattle.model.specs.Doors.{refusedStart}
 use Rattle.model.specs.declared.Thread.{Thread}
 use Rattle.model.specs.declared.State.{State}
 use Rattle.model.specs.Facts.{Settled}
-use Rattle.model.proofs.Rows.{row-of, row-get}
 use Rattle.guarantee.specs.Demand3 as demand
 use Rattle.guarantee.specs.Demand3.{Last, chargeOf}
 use Rattle.guarantee.specs.Ledger.{addFirst, ledger, acceptedOf}
 use Rattle.guarantee.specs.Account.{recordFrom, queueBy, queueFrom, stampFrom, elapsedFrom, sinceFrom, ticksFrom, slotFrom, picture, decisionOf, chargeBy, periodsBy, periodsFrom, usedFrom, decisionFrom, decisionsFrom, ageOf, Accounted, Account, Answers}
 use Rattle.guarantee.specs.Promises.{idleDecision}
 use Rattle.guarantee.specs.Scheduler.{share, Moved}
-use Rattle.guarantee.proofs.Window.{newest-le-sum, window, window-sum}
+use Rattle.guarantee.proofs.Window.{newest-le-sum, window}
+use Rattle.guarantee.proofs.Books.{share-outside}
+use Rattle.guarantee.proofs.Acts.{act-since}
 use Rattle.guarantee.proofs.Kept.{billed-inside}
 use Rattle.guarantee.proofs.Applied.{Left, apply-cases, after-left}
 use Rattle.guarantee.proofs.Answered.{Good, accepts, answer-accepted, answer-refused, accepted, good-settle}
@@ -46,13 +48,13 @@ use Rattle.guarantee.proofs.Decision.{idle-exactly}
 use Rattle.guarantee.proofs.Fresh.{start-of, start-good}
 use Rattle.guarantee.proofs.Log.{accepted-is}
 use Rattle.guarantee.proofs.Agrees.{Agrees, agrees, charge-is}
-use Rattle.guarantee.proofs.Periods.{filled, sum-filled}
+use Rattle.guarantee.proofs.Periods.{filled}
 use Rattle.guarantee.proofs.Ledgers.{newestFirst, ledger-is}
-use Rattle.guarantee.proofs.Totals.{fresh-row}
+use Rattle.guarantee.proofs.Totals.{used-is, fresh-row}
 use Rattle.guarantee.proofs.Zeros.{zeros-length}
 use Rattle.guarantee.proofs.Looks.{decide-same, decide-settle}
 use Rattle.guarantee.proofs.Ages.{window-at, period-at}
-use Rattle.guarantee.proofs.Told.{recordAfter, act-since, after-record, after-queue}
+use Rattle.guarantee.proofs.Told.{recordAfter, after-record, after-queue}
 
 -- what the account says of the last accepted event
 abbrev lastFrom : Settings → List (List ℕ) → Last
@@ -79,11 +81,7 @@ module _ (c : Settings) (es : List (List ℕ)) (v : Saved) (m : View c es v) whe
   total-is p = go (decLt p (c .count)) (decLt p 16)
     where
       go : Dec (p < c .count) → Dec (p < 16) → used s p ≡ usedFrom c es p
-      go (yes i) z =
-          subst (λ (d : Settings). p < d .count → used s p ≡ sum (row-of (W d) (v .history) p)) (m .good .settings) (k .books .totals p) i
-          ∙ sym (window-sum (s .slot .0) (row-of (W c) (v .history) p))
-          ∙ ap sum (m .window p i)
-          ∙ sum-filled (W c) (periodsFrom c es p)
+      go (yes i) z = used-is c p i v (periodsFrom c es p) (m .good) (m .window p i)
       go (no i) (yes z) =
           let none : used s p ≡ 0 = k .rest .no-total p z (subst (λ (d : Settings). d .count ≤ p) (sym (m .good .settings)) (omega arith)) in
           omega (arith, newest-le-sum (W c) (periodsFrom c es p), m .outside p (omega arith))
@@ -96,11 +94,8 @@ module _ (c : Settings) (es : List (List ℕ)) (v : Saved) (m : View c es v) whe
 
   stored-is : s .queue ≡ queueFrom es ++ replicate (64 - length (queueFrom es)) 0
   stored-is =
-      let rest : List ℕ = drop (s .queued) (s .queue) in
-      let n : length rest ≡ 64 - length (queueFrom es) = rw (length-drop (s .queued) (s .queue), m .good .lengths .queue, queued-is) in
-      sym (take-append-drop (s .queued) (s .queue))
-      ∙ ap (λ (l : List ℕ). l ++ rest) (m .queue)
-      ∙ ap (λ (l : List ℕ). queueFrom es ++ l) (zeros-of rest (k .stored .zeros) ∙ ap (λ (i : ℕ). replicate {A = ℕ} i 0) n)
+      zeros-after (s .queue) (s .queued) 64 (m .good .lengths .queue) (k .stored .few) (k .stored .zeros)
+      ∙ ap (λ (q : List ℕ). q ++ replicate (64 - length q) 0) (m .queue)
 
   abbrev totals : ℕ → Cycles
   totals = λ p. cycles (usedFrom c es p)
@@ -109,9 +104,9 @@ module _ (c : Settings) (es : List (List ℕ)) (v : Saved) (m : View c es v) whe
   unfolding decisionOf
   decided = decide-same s (picture c (recordFrom es) (queueFrom es) (usedFrom c es)) (m .good .settings)
       (ext-getD (cycles 0) (s .used) (map totals (below 16)) (m .good .lengths .used ∙ sym (table-length totals 16))
-      (λ p b. ap cycles (total-is p) ∙ sym (table-at totals (cycles 0) 16 p (rw (m .good .lengths .used) at b))))
+      (λ p b. ap cycles (total-is p) ∙ sym (table-at totals 16 p (cycles 0) (rw (m .good .lengths .used) at b))))
       (ext-getD absent (s .threads) (map (recordFrom es) (below 64)) (m .good .lengths .threads ∙ sym (table-length (recordFrom es) 64))
-      (λ t b. m .threads t ∙ sym (table-at (recordFrom es) absent 64 t (rw (m .good .lengths .threads) at b))))
+      (λ t b. m .threads t ∙ sym (table-at (recordFrom es) 64 t absent (rw (m .good .lengths .threads) at b))))
       stored-is queued-is
 
 -- ---- the charges of the account
@@ -142,10 +137,6 @@ module _ (e : List ℕ) (x : ℕ) where
       go true q z r = rw (periodsBy, q) (omega arith)
       go false q true r = rw (periodsBy, q, r) (omega (arith, added-sum ys))
       go false q false r = rw (periodsBy, q, r) (added-sum ys)
-
-share-outside : (n : ℕ) (o : Option ℕ) (p x : ℕ) → ((r : ℕ) → o ≡ some r → r < n) → n ≤ p → share o p x ≡ 0
-share-outside n none p x f out = refl
-share-outside n (some r) p x f out = let a : r < n = f r refl in rw (ne-eqb r p (omega arith))
 
 periods-some : (c : Settings) (es : List (List ℕ)) (p : ℕ) → 0 < length (periodsFrom c es p)
 unfolding periodsFrom

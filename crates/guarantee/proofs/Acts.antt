@@ -97,10 +97,11 @@ module _ (s : State) (b : List ℕ) where
       → (kindOf b ≡ Event.block → P (goes s t (withReady was false)))
       → (kindOf b ≡ Event.setPriority → P (withThread s t (withPriority was (priorityOf b))))
       → (kindOf b ≡ Event.end → P (goes s t absent))
-      → (kindOf b ≢ Event.create → kindOf b ≢ Event.ready → kindOf b ≢ Event.block → kindOf b ≢ Event.end → P s) → P (act s b)
+      → (kindOf b ≢ Event.create → kindOf b ≢ Event.ready → kindOf b ≢ Event.block → kindOf b ≢ Event.setPriority → kindOf b ≢ Event.end → P s)
+      → P (act s b)
   unfolding act
   act-cases P f₁ f₂ f₃ f₄ f₅ f₆ =
-      case Event.create f₁ (λ n₁. case Event.ready f₂ (λ n₂. case Event.block f₃ (λ n₃. case Event.setPriority f₄ (λ n₄. case Event.end f₅ (λ n₅. f₆ n₁ n₂ n₃ n₅)))))
+      case Event.create f₁ (λ n₁. case Event.ready f₂ (λ n₂. case Event.block f₃ (λ n₃. case Event.setPriority f₄ (λ n₄. case Event.end f₅ (λ n₅. f₆ n₁ n₂ n₃ n₄ n₅)))))
     where
       case : (k : ℕ) {x y : State} → (kindOf b ≡ k → P x) → (kindOf b ≢ k → P y) → P (cond (eqb (kindOf b) k) x y)
       case k {x} {y} f g = go (eqb (kindOf b) k) refl
@@ -124,7 +125,7 @@ module _ (s : State) (b : List ℕ) where
       same-queue s h k len t i r (changed s h k len t i r e refl refl refl) refl (λ z. e))
       (λ q. let i : t < 64 = inside (omega arith) (omega arith) in
       goes-settled s h k len t i absent (record { partition = λ z. clash z refl; mask = λ z. clash z refl; none = λ z. refl }) refl)
-      (λ n₁ n₂ n₃ n₄. k)
+      (λ n₁ n₂ n₃ n₄ n₅. k)
     where
       inside : Event.create ≤ kindOf b → kindOf b ≤ Event.end → t < 64
       inside = n .thread-inside
@@ -135,7 +136,7 @@ module _ (s : State) (b : List ℕ) where
   -- all else is as it was
   act-keeps : {A : Type 0} (f : State → A) → ((ts : List Thread) (q : List ℕ) (n : ℕ) → f (withLists s ts q n) ≡ f s) → f (act s b) ≡ f s
   act-keeps f e =
-      act-cases (λ s′. f s′ ≡ f s) (λ q. e _ _ _) (λ q. e _ _ _) (λ q. e _ _ _) (λ q. e _ _ _) (λ q. e _ _ _) (λ n₁ n₂ n₃ n₄. refl)
+      act-cases (λ s′. f s′ ≡ f s) (λ q. e _ _ _) (λ q. e _ _ _) (λ q. e _ _ _) (λ q. e _ _ _) (λ q. e _ _ _) (λ n₁ n₂ n₃ n₄ n₅. refl)
 
   pub act-settings : act s b .settings ≡ s .settings
   act-settings = act-keeps (λ x. x .settings) (λ ts q n. refl)
@@ -145,3 +146,6 @@ module _ (s : State) (b : List ℕ) where
 
   pub act-slot : act s b .slot .0 ≡ s .slot .0
   act-slot = act-keeps (λ x. x .slot .0) (λ ts q n. refl)
+
+  pub act-since : act s b .since .0 ≡ s .since .0
+  act-since = act-keeps (λ x. x .since .0) (λ ts q n. refl)

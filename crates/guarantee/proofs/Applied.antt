@@ -45,7 +45,7 @@ module _ (s : State) (b : List ℕ) (h : List ℕ) (len : Lengths s) (n : Named 
       (λ q k. with-queue _ (leaves (queueOf s) (threadOf b)) (with-thread _) (k .stored .few))
       (λ q k. with-thread _)
       (λ q k. with-queue _ (leaves (queueOf s) (threadOf b)) (with-thread _) (k .stored .few))
-      (λ n₁ n₂ n₃ n₄ k. len)
+      (λ n₁ n₂ n₃ n₄ n₅ k. len)
 
   act-threads : Bytes b → ((t : ℕ) → ThreadTyped (thread s t)) → (t : ℕ) → ThreadTyped (thread (act s b) t)
   act-threads y old = act-cases s b (λ s′. (t : ℕ) → ThreadTyped (thread s′ t))
@@ -54,7 +54,7 @@ module _ (s : State) (b : List ℕ) (h : List ℕ) (len : Lengths s) (n : Named 
       (λ q. new (omega arith) (omega arith) (record { partition = old i .partition; priority = old i .priority; mask = old i .mask }))
       (λ q. new (omega arith) (omega arith) (record { partition = old i .partition; priority = y 3; mask = old i .mask }))
       (λ q. new (omega arith) (omega arith) (record { partition = omega arith; priority = omega arith; mask = omega arith }))
-      (λ n₁ n₂ n₃ n₄. old)
+      (λ n₁ n₂ n₃ n₄ n₅. old)
     where
       i : ℕ
       i = threadOf b

@@ -10,8 +10,8 @@ use lib.Dec.{eqb}
 use borrow.Author.Tests.{eqb-true, eqb-false, eq-eqb, ne-eqb}
 use native.Mathlib.Omega.{arith}
 use Rattle.lists.specs.Lists.{sum, total}
-use Rattle.lists.proofs.Totals.{total-mono, total-add, total-zero, only-total}
-use Rattle.lists.proofs.ListSums.{sum-set, total-ext}
+use Rattle.lists.proofs.Sums.{total-mono, total-add, total-zero, only-total, sum-set, total-ext}
+use Rattle.lists.proofs.Parts.{row-of, row-get, row-length}
 use Rattle.units.specs.declared.Cycles.{Cycles}
 use Rattle.sheet.specs.Settings.{W, C, Limits}
 use Rattle.sheet.specs.declared.Settings.{Settings}
@@ -19,14 +19,17 @@ use Rattle.model.specs.State.{used}
 use Rattle.model.specs.Step.{addUsed, addHistory, clearHistory, lowerUsed}
 use Rattle.model.specs.Facts.{Books, Rest, usedAt, charges}
 use Rattle.model.specs.declared.State.{State}
-use Rattle.model.proofs.Rows.{row-of, row-get, row-length}
 use Rattle.guarantee.specs.Scheduler.{share, charge}
 use Rattle.guarantee.proofs.Charges.{row-charge, row-clear, used-charge, lower-past, lower-at}
 
--- what is charged to one partition is charged to all together
+-- what is charged to one partition is charged to all together, and nothing is charged to one past the last
 share-total : (n : ℕ) (o : Option ℕ) (x : ℕ) → ((r : ℕ) → o ≡ some r → r < n) → total n (λ q. share o q x) ≤ x
 share-total n none x h = omega (arith, total-zero n)
 share-total n (some r) x h = omega (arith, only-total n r x (h r refl))
+
+pub share-outside : (n : ℕ) (o : Option ℕ) (p x : ℕ) → ((r : ℕ) → o ≡ some r → r < n) → n ≤ p → share o p x ≡ 0
+share-outside n none p x f out = refl
+share-outside n (some r) p x f out = let a : r < n = f r refl in rw (ne-eqb r p (omega arith))
 
 module _ (s : State) (h : List ℕ) (lim : Limits (s .settings)) (sixteen : length (s .used) ≡ 16) (fits : s .settings .count * W (s .settings) ≤ length h) where
   abbrev c : Settings
@@ -91,12 +94,8 @@ module _ (s : State) (h : List ℕ) (lim : Limits (s .settings)) (sixteen : leng
     pub rest-charge : Rest c (s .used) → Rest c (addUsed s o e)
     rest-charge t = record {
       no-share = t .no-share;
-      no-total = λ p i out. omega (arith, used-now p, t .no-total p i out, none-of o r p out);
+      no-total = λ p i out. omega (arith, used-now p, t .no-total p i out, share-outside (c .count) o p e r out);
     }
-      where
-        none-of : (o : Option ℕ) → ((r : ℕ) → o ≡ some r → r < c .count) → (p : ℕ) → c .count ≤ p → share o p e ≡ 0
-        none-of none r p out = refl
-        none-of (some q) r p out = let a : q < c .count = r q refl in rw (ne-eqb q p (omega arith))
 
   -- ---- a move to slot k, which is cleared
   module _ (k : ℕ) (inside : k < W c) where

@@ -12,13 +12,13 @@ use borrow.Author.Tests.{eqb-true, eqb-false}
 use native.Mathlib.Omega.{arith}
 use native.Mathlib.Decide.{decLt}
 use native.Mathlib.Nat.{not-suc-le-zero}
+use Rattle.lists.proofs.Parts.{row-of, in-rows, row-get, row-set, row-set-other}
 use Rattle.units.specs.declared.Cycles.{Cycles}
 use Rattle.sheet.specs.Settings.{W}
 use Rattle.model.specs.State.{used}
 use Rattle.model.specs.Step.{addUsed, addHistory, clearHistory, lowerUsed}
 use Rattle.model.specs.Facts.{usedAt}
 use Rattle.model.specs.declared.State.{State}
-use Rattle.model.proofs.Rows.{row-of, in-rows, row-get, row-set, row-set-other}
 use Rattle.guarantee.specs.Scheduler.{share, charge}
 
 -- ---- the history after e is charged to the partition o in the current slot
@@ -59,11 +59,6 @@ module _ (s : State) where
           rw (row-set-other w h q r slot (getD h (r * w + slot) 0 + e) (omega arith) b) (sym (charge-none slot (row-of w h q)))
 
 -- ---- the history after slot k is cleared for every partition below n
-
-pub clear-length : (w k n : ℕ) (h : List ℕ) → length (clearHistory w k n h) ≡ length h
-unfolding clearHistory
-clear-length w k zero h = refl
-clear-length w k (suc n) h = length-set (clearHistory w k n h) (n * w + k) 0 ∙ clear-length w k n h
 
 pub clear-past : (w k m n : ℕ) (h : List ℕ) → k < w → n ≤ m → drop (m * w) (clearHistory w k n h) ≡ drop (m * w) h
 unfolding clearHistory

@@ -12,13 +12,19 @@ use Rattle.lists.specs.Lists.{any, member}
 use Rattle.lists.proofs.Tests.{clash, both}
 use Rattle.model.specs.State.{thread, queueOf}
 use Rattle.model.specs.Policy.{competing, hasBudget, winner}
+use Rattle.model.specs.Choices.{Won}
 use Rattle.model.specs.Facts.{Settled}
 use Rattle.model.specs.declared.State.{State}
 use Rattle.model.proofs.Meaning.{sound-of}
-use Rattle.guarantee.specs.Promises.{Idles, Won, FirstOf, mayRun, Choice, Chooses, ChoosesOne, BudgetFirst}
-use Rattle.guarantee.proofs.Winner.{winner-none, winner-has}
+use Rattle.model.proofs.Order.{weak}
+use Rattle.model.proofs.Winner.{winner-none}
+use Rattle.guarantee.specs.Promises.{Idles, Orders, FirstOf, mayRun, Choice, Chooses, ChoosesOne, BudgetFirst}
+use Rattle.guarantee.proofs.Winner.{winner-has}
 use Rattle.guarantee.proofs.Chosen.{first-member}
 use Rattle.guarantee.proofs.Decision.{allowed-competes, decide-picks, idle-exactly}
+
+pub orders : Orders
+orders s m = weak s m
 
 pub idles : Idles
 idles s h e = let k : Settled s h = sound-of s h e .settled in idle-exactly s h k

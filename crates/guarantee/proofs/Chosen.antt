@@ -1,14 +1,13 @@
 -- The chosen thread: the first of top priority among the queued threads of the partition that this core may run.
 use mathlib.Core.Path.{_≡_, refl, sym, ap, subst, _∙_}
 use Prim.Native.Nat.{ℕ, _≤_}
-use mathlib.Core.Bool.{Bool, true, false, _&&_, _||_}
+use mathlib.Core.Bool.{Bool, true, false, _&&_, _||_, or-true}
 use mathlib.Core.List.{List, [], _∷_}
 use lib.Dec.{eqb}
 use borrow.Author.Tests.{eqb-true, eq-eqb}
 use Rattle.lists.specs.Lists.{any, consIf, keep, first, member}
 use Rattle.lists.proofs.Tests.{clash, both, and}
-use Rattle.lists.proofs.Lists.{member-keep, member-append}
-use Rattle.lists.proofs.Finding.{or-true, any-member, keep-keep, maximum-high, maximum-found}
+use Rattle.lists.proofs.All.{member-keep, member-append, any-member, keep-both, maximum-high, maximum-found}
 use Rattle.model.specs.State.{thread, queueOf, idle}
 use Rattle.model.specs.Policy.{candidates, competing, topPriority, chosen}
 use Rattle.model.specs.declared.State.{State}
@@ -69,7 +68,7 @@ module _ (s : State) (p : ℕ) where
     first-top : FirstOf top (queueOf s) (chosen s p)
     unfolding chosen candidates
     first-top =
-        rw (keep-keep (mayRun s p) (λ t. eqb (thread s t .priority) (topPriority s p)) (queueOf s))
+        rw (keep-both (mayRun s p) (λ t. eqb (thread s t .priority) (topPriority s p)) top (λ t. refl) (queueOf s))
         (first-is top (queueOf s) idle some-top)
 
     is-top : (mayRun s p (chosen s p) ≡ true) × (topPriority s p ≡ thread s (chosen s p) .priority)

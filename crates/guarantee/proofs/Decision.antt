@@ -8,14 +8,15 @@ use mathlib.Core.List.{List}
 use native.Mathlib.Omega.{arith}
 use Rattle.lists.specs.Lists.{any}
 use Rattle.lists.proofs.Tests.{clash}
-use Rattle.lists.proofs.Lists.{below-any}
+use Rattle.lists.proofs.All.{below-any}
 use Rattle.model.specs.State.{thread, queueOf, idle}
 use Rattle.model.specs.Policy
 use Rattle.model.specs.Policy.{Decided, competing, mode, winner, chosen, decideFor, decide}
+use Rattle.model.specs.Choices.{Won}
 use Rattle.model.specs.declared.State.{State}
 use Rattle.model.specs.Facts.{Settled, Runs}
-use Rattle.guarantee.specs.Promises.{Allowed, NoneAllowed, IdleExactly, idleDecision, Won, Busy}
-use Rattle.guarantee.proofs.Winner.{winner-won, winner-none}
+use Rattle.model.proofs.Winner.{winner-won, winner-none}
+use Rattle.guarantee.specs.Promises.{Allowed, NoneAllowed, IdleExactly, idleDecision, Busy}
 use Rattle.guarantee.proofs.Chosen.{competes, chosen-is, chosen-allowed}
 
 module _ (s : State) (h : List ℕ) (k : Settled s h) where

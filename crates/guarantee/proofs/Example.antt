@@ -9,7 +9,7 @@ use lib.IntN.{pos}
 use lib.Signed.{_≤ℤ_}
 use native.Mathlib.Omega.{arith}
 use Rattle.lists.specs.Lists.{below, any, all, keep, first, maximum, distinct}
-use Rattle.lists.proofs.Lists.{all-below}
+use Rattle.lists.proofs.All.{all-below}
 use Rattle.units.specs.Units.{budgetOf, elapsedOf, remainingOf, hasBudgetOf, smallerFraction}
 use Rattle.sheet.specs.Settings.{budget, windowFits, tickFits, policyAndCoreFit, countFits, sharesFit, withinLimits}
 use Rattle.sheet.specs.declared.Settings.{Settings}

@@ -1,23 +1,22 @@
 -- A fresh start from a sheet that is not refused is sound and typed.
 use mathlib.Core.Path.{_≡_, refl, ap}
 use Prim.Native.Nat.{ℕ, _*_, _≤_, _<_}
-use mathlib.Core.Bool.{Bool, false, cond, true, not}
-use mathlib.Core.List.{List, []}
+use mathlib.Core.Bool.{Bool, cond}
+use mathlib.Core.List.{List}
 use lib.ListN.{drop, length, replicate, length-replicate, getD-replicate, List·getD-eq-default}
 use lib.Seq.{drop-at}
-use lib.Dec.{ltb, eqb}
-use borrow.Author.Tests.{eqb-true, eqb-false, ltb-false}
+use lib.Dec.{ltb}
+use borrow.Author.Tests.{ltb-false}
 use native.Mathlib.Omega.{arith}
 use native.Mathlib.Decide.{decLt}
 use Rattle.lists.specs.Lists.{any, distinct}
-use Rattle.lists.proofs.Totals.{total-at}
-use Rattle.lists.proofs.Tests.{clash, passes}
+use Rattle.lists.proofs.Tests.{clash, passes, passes-number}
 use Rattle.units.specs.declared.Percent.{Percent}
 use Rattle.sheet.specs.Settings.{W, share, Limits}
 use Rattle.sheet.specs.Sheet.{settingsOf, refusedSheet}
 use Rattle.sheet.specs.declared.Settings.{Settings}
-use Rattle.sheet.proofs.Within.{limits-of}
-use Rattle.sheet.proofs.Sheets.{sheet-within, shares-length, share-past}
+use Rattle.sheet.proofs.Within.{limits-of, share-most}
+use Rattle.sheet.proofs.Sheets.{sheet-within, sheet-clear}
 use Rattle.model.specs.State.{absent, wanted}
 use Rattle.model.specs.Run.{freshState, fresh}
 use Rattle.model.specs.Doors.{refusedStart}
@@ -37,7 +36,7 @@ pub record Startable (c : Settings) : Type 0 where
   pub no-share : (p : ℕ) → p < 16 → c .count ≤ p → share c p ≡ 0
 
 sheet-startable : (bs : List ℕ) → refusedSheet bs ≡ 0 → Startable (settingsOf bs)
-sheet-startable bs e = record { limits = limits-of (settingsOf bs) (sheet-within bs e); sixteen = shares-length bs; no-share = share-past bs e }
+sheet-startable bs e = record { limits = limits-of (settingsOf bs) (sheet-within bs e); sixteen = sheet-clear bs e .0; no-share = sheet-clear bs e .1 }
 
 none-there : (t : ℕ) → t < 64 → threadAt (replicate 64 absent) t ≡ absent
 none-there t b = getD-replicate 64 t absent absent b
@@ -47,7 +46,7 @@ module _ (c : Settings) (ok : Startable c) where
   share-high p = go (decLt p (c .count)) (decLt p 16)
     where
       go : Dec (p < c .count) → Dec (p < 16) → share c p ≤ 100
-      go (yes a) z = omega (arith, total-at (c .count) (share c) p a, ok .limits .shares)
+      go (yes a) z = share-most c (ok .limits) p a
       go (no a) (yes z) = omega (arith, ok .no-share p z (omega arith))
       go (no a) (no z) =
           let out : share c p ≡ 0 = ap (λ (x : Percent). x .0) (List·getD-eq-default (c .shares) (record { 0 = 0 }) {n = p} (rw (ok .sixteen) (omega arith))) in
@@ -118,15 +117,10 @@ module _ (c : Settings) (ok : Startable c) (h : List ℕ) where
 pub start-of : (sheet h : List ℕ) → refusedStart sheet h ≡ 0
     → Startable (settingsOf sheet) × (wanted (freshState (settingsOf sheet)) ≤ length h)
 unfolding refusedStart
-start-of sheet h e = go (eqb (refusedSheet sheet) 0) refl e
-  where
-    short : Bool
-    short = ltb (length h) (wanted (freshState (settingsOf sheet)))
-
-    go : (z : Bool) → eqb (refusedSheet sheet) 0 ≡ z → cond (not z) (refusedSheet sheet) (cond short 7 0) ≡ 0
-        → Startable (settingsOf sheet) × (wanted (freshState (settingsOf sheet)) ≤ length h)
-    go true q f = (sheet-startable sheet (eqb-true _ _ q), ltb-false _ _ (passes short 7 0 tt f .0))
-    go false q f = absurd (eqb-false _ _ q f)
+start-of sheet h e =
+    let short : Bool = ltb (length h) (wanted (freshState (settingsOf sheet))) in
+    let (none, f) = passes-number (refusedSheet sheet) (cond short 7 0) e in
+    (sheet-startable sheet none, ltb-false _ _ (passes short 7 0 tt f .0))
 
 pub start-good : (sheet h : List ℕ) → refusedStart sheet h ≡ 0 → Good (settingsOf sheet) (fresh (settingsOf sheet) h)
 start-good sheet h e = let (ok, room) = start-of sheet h e in fresh-good (settingsOf sheet) ok h room

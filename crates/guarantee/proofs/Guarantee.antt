@@ -10,7 +10,7 @@ use lib.Dec.{eqb}
 use borrow.Author.Tests.{eqb-false}
 use native.Mathlib.Omega.{arith}
 use Rattle.lists.specs.Lists.{sum, total}
-use Rattle.lists.proofs.Totals.{total-add, total-at, others, others-not, others-total, others-const}
+use Rattle.lists.proofs.Sums.{total-add, total-at, others, others-not, others-total, others-const}
 use Rattle.guarantee.specs.Scheduler.{tick, Scheduler, Entry, share, trace, charged, Waiting, Stretch, Guaranteed, History, Decided, Step, Lawful}
 use Rattle.guarantee.proofs.Count.{Who, idle, mine, account, to-mine, to-account, gained, Link, Links, gains}
 use Rattle.guarantee.proofs.Held.{held, held-all, held-le, held-grows, held-other, held-other-le, held-tick, held-tick-le, held-cleared}

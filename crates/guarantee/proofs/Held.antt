@@ -6,17 +6,18 @@ use lib.ListN.{length, length-set}
 use native.Mathlib.Omega.{arith}
 use Rattle.lists.specs.Lists.{sum}
 use Rattle.guarantee.specs.Scheduler.{Kind, tick, other, charge, History, Moved}
-use Rattle.guarantee.proofs.Window.{window, newest, add-first, shift, newest-le-sum, newest-grows, newest-all, newest-charge, newest-charge-le, newest-shift, newest-shift-le, window-sum, window-length, window-charge, window-tick}
+use Rattle.guarantee.specs.Ledger.{addFirst}
+use Rattle.guarantee.proofs.Window.{window, newest, shift, newest-le-sum, newest-grows, newest-all, newest-charge, newest-charge-le, newest-shift, newest-shift-le, window-sum, window-length, window-charge, window-tick}
 
 module _ {S : Type 0} (W : ℕ) (H : History S) where
   abbrev pub held : S → ℕ → ℕ → ℕ
   held s q k = newest k (window (H .slot s) (H .row s q))
 
   module _ (k : Kind) (s s′ : S) (q x : ℕ) (len : length (H .row s q) ≡ W) (inside : H .slot s < W) (m : Moved W H k s s′ q x) where
-    other-window : k ≡ other → window (H .slot s′) (H .row s′ q) ≡ add-first x (window (H .slot s) (H .row s q))
+    other-window : k ≡ other → window (H .slot s′) (H .row s′ q) ≡ addFirst x (window (H .slot s) (H .row s q))
     other-window e = rw (m .by-other-slot e, m .by-other e) (window-charge (H .slot s) x (H .row s q) (omega arith))
 
-    tick-window : k ≡ tick → window (H .slot s′) (H .row s′ q) ≡ shift W (add-first x (window (H .slot s) (H .row s q)))
+    tick-window : k ≡ tick → window (H .slot s′) (H .row s′ q) ≡ shift W (addFirst x (window (H .slot s) (H .row s q)))
     tick-window e =
         let row : List ℕ = H .row s q in
         let slot : ℕ = H .slot s in
@@ -39,15 +40,15 @@ module _ {S : Type 0} (W : ℕ) (H : History S) where
     pub held-tick-le : k ≡ tick → (j : ℕ) → held s′ q (suc j) ≤ held s q j + x
     held-tick-le e j =
         let w : List ℕ = window (H .slot s) (H .row s q) in
-        rw (tick-window e) (omega (arith, newest-shift-le W j (add-first x w), newest-charge-le j x w))
+        rw (tick-window e) (omega (arith, newest-shift-le W j (addFirst x w), newest-charge-le j x w))
 
     pub held-tick : k ≡ tick → (j : ℕ) → 0 < j → j < W → held s′ q (suc j) ≡ held s q j + x
     held-tick e j b c =
         let w : List ℕ = window (H .slot s) (H .row s q) in
-        rw (tick-window e, newest-shift W j (add-first x w) c) (newest-charge j x w b full)
+        rw (tick-window e, newest-shift W j (addFirst x w) c) (newest-charge j x w b full)
 
     pub held-cleared : k ≡ tick → held s′ q 1 ≡ 0
-    held-cleared e = rw (tick-window e, newest-shift W 0 (add-first x (window (H .slot s) (H .row s q))) (omega arith))
+    held-cleared e = rw (tick-window e, newest-shift W 0 (addFirst x (window (H .slot s) (H .row s q))) (omega arith))
 
   pub held-all : (s : S) (q : ℕ) → length (H .row s q) ≡ W → held s q W ≡ sum (H .row s q)
   held-all s q len = newest-all W (window (H .slot s) (H .row s q)) (rw window-length len) ∙ window-sum (H .slot s) (H .row s q)

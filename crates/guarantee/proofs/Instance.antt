@@ -12,6 +12,7 @@ use native.Mathlib.Omega.{arith}
 use native.Mathlib.Numerals.{add-one}
 use native.Mathlib.Nat.{mod-eq-of-lt, mod-self}
 use Rattle.lists.specs.Lists.{sum}
+use Rattle.lists.proofs.Parts.{row-of, row-length}
 use Rattle.sheet.specs.Settings.{W, C, budget, Limits}
 use Rattle.sheet.specs.declared.Settings.{Settings}
 use Rattle.units.proofs.Laws.{has-budget}
@@ -22,7 +23,6 @@ use Rattle.model.specs.Policy.{candidates, competing, remaining, hasBudget, win
 use Rattle.model.specs.Step.{Saved, saved, billed, charge, next, moveSlot, act, settle, restart, apply}
 use Rattle.model.specs.declared.State.{State}
 use Rattle.model.specs.Facts.{Settled, Sound, Accepted}
-use Rattle.model.proofs.Rows.{row-of, row-length}
 use Rattle.sheet.proofs.Within.{budgets}
 use Rattle.model.proofs.Bounds.{next-inside}
 use Rattle.guarantee.specs.Scheduler.{Kind, tick, resume, other, Scheduler, share, History, Moved, Step, Lawful}

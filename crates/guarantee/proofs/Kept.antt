@@ -1,5 +1,5 @@
 -- What the charge, a tick's move and a resume leave of soundness.
-use mathlib.Core.Path.{_≡_, refl, _∙_}
+use mathlib.Core.Path.{_≡_, refl}
 use Prim.Native.Nat.{ℕ, _+_, _*_, _≤_, _<_}
 use mathlib.Core.Bool.{Bool, true, false, cond}
 use mathlib.Core.Option.{Option, none, some}
@@ -14,8 +14,8 @@ use Rattle.model.specs.Event.{elapsedAt, stampOf}
 use Rattle.model.specs.Step.{Saved, billed, charge, next, moveSlot, restart}
 use Rattle.model.specs.declared.State.{State}
 use Rattle.model.specs.Facts.{Settled, Sound}
-use Rattle.model.proofs.Bounds.{next-inside}
-use Rattle.guarantee.proofs.Charges.{history-length, clear-length}
+use Rattle.model.proofs.Bounds.{running-inside, clear-length, next-inside}
+use Rattle.guarantee.proofs.Charges.{history-length}
 use Rattle.guarantee.proofs.Zeros.{zero-books, zero-rest}
 use Rattle.guarantee.proofs.Books.{books-charge, books-tick, rest-charge, rest-tick}
 
@@ -24,19 +24,12 @@ pub billed-inside : (s : State) (h : List ℕ) → Sound s h → (r : ℕ) → b
 unfolding billed
 billed-inside s h g r e = go (eqb (s .running) idle) refl e
   where
-    k : Settled s h
-    k = g .settled
+    payer : ℕ
+    payer = thread s (s .running) .partition
 
-    t : ℕ
-    t = s .running
-
-    go : (z : Bool) → eqb t idle ≡ z → cond z none (some (thread s t .partition)) ≡ some r → r < s .settings .count
+    go : (z : Bool) → eqb (s .running) idle ≡ z → cond z none (some payer) ≡ some r → r < s .settings .count
     go true q f = let x : _≡_ {A = ℕ} 0 1 = cc in let w : ⊥ = omega arith in absurd w
-    go false q f =
-        let m = g .runs .queued (eqb-false t idle q) in
-        let b : t < 64 = k .queue .inside t m in
-        let w : thread s t .partition ≡ r = cc in
-        rw (← w) (k .proper t b .partition (k .queue .exists t b (k .queue .ready t b ∙ m)))
+    go false q f = let w : payer ≡ r = cc in rw (← w) (running-inside s h g (eqb-false (s .running) idle q) .1)
 
 module _ (v : Saved) (b : List ℕ) where
   abbrev s : State

@@ -1,33 +1,30 @@
 -- What a list of events tells of a thread is what the state has of it: readiness by the list is membership in the queue.
 use mathlib.Core.Path.{_≡_, refl, sym, ap, subst, _∙_}
-use Prim.Native.Nat.{ℕ, _≤_, _<_}
+use Prim.Native.Nat.{ℕ, _<_}
 use mathlib.Core.Bool.{Bool, true, false, cond, _&&_}
 use mathlib.Core.List.{List, [], _∷_}
-use lib.ListN.{length, set}
 use lib.Dec.{eqb}
-use borrow.Author.Tests.{eqb-true, eq-eqb, ne-eqb}
+use borrow.Author.Tests.{eqb-true, ne-eqb}
 use native.Mathlib.Omega.{arith}
 use Rattle.lists.specs.Lists.{member}
 use Rattle.lists.proofs.Tests.{both}
-use Rattle.lists.proofs.Lists.{any-below}
+use Rattle.lists.proofs.All.{any-below}
 use Rattle.sheet.specs.declared.Settings.{Settings}
-use Rattle.model.specs.State.{thread, queueOf, allows}
+use Rattle.model.specs.State.{absent, thread, queueOf, allows}
 use Rattle.model.specs.Event
-use Rattle.model.specs.Event.{kindOf, threadOf, stampOf}
+use Rattle.model.specs.Event.{kindOf, threadOf, partitionOf, priorityOf, maskOf}
 use Rattle.model.specs.Policy.{competing}
-use Rattle.model.specs.Step.{Saved, charge, moveSlot, act, settle, restart, apply}
+use Rattle.model.specs.Step.{Saved, withReady, withPriority, created, settle, apply}
 use Rattle.model.specs.Run.{Entry, run}
 use Rattle.model.specs.declared.Thread.{Thread}
-use Rattle.model.specs.declared.State.{State}
-use Rattle.model.specs.Facts.{threadAt, Accepted, Named}
+use Rattle.model.specs.Facts.{Accepted}
 use Rattle.model.proofs.Accepted.{fit-of}
+use Rattle.guarantee.specs.Account.{recordBy}
 use Rattle.guarantee.specs.Demand3 as demand
 use Rattle.guarantee.specs.Demand3.{Known, toldBy, knownAfter, knownAt, waits}
 use Rattle.guarantee.specs.Ledger.{ReadyIsQueued}
 use Rattle.guarantee.specs.Promises.{Allowed}
-use Rattle.guarantee.proofs.Queues.{at-set}
-use Rattle.guarantee.proofs.Acts.{act-cases}
-use Rattle.guarantee.proofs.Applied.{apply-cases, named}
+use Rattle.guarantee.proofs.Told.{recordAfter, after-record}
 use Rattle.guarantee.proofs.Decision.{allowed-competes}
 use Rattle.guarantee.proofs.Answered.{Good, accepted, good-answer}
 use Rattle.guarantee.proofs.Log.{Log, final, run-log, after-final, accepted-is, when-accepted, when-refused, good-final}
@@ -39,58 +36,32 @@ knownOf r = record { ready = r .ready; partition = r .partition; mask = r .mask 
 abbrev told : List ℕ → ℕ → Known → Known
 told b t k = cond (eqb (threadOf b) t) (toldBy b k) k
 
-module _ (s : State) (b : List ℕ) (len : length (s .threads) ≡ 64) (n : Named s b) (t : ℕ) where
-  abbrev i : ℕ
-  i = threadOf b
-
-  -- a thread's record changed as the event tells
-  set-told : (r : Thread) → Event.create ≤ kindOf b → kindOf b ≤ Event.end → knownOf r ≡ toldBy b (knownOf (thread s i))
-      → knownOf (threadAt (set (s .threads) i r) t) ≡ told b t (knownOf (thread s t))
-  set-told r lo hi e = at-set (s .threads) i r (rw len (n .thread-inside lo hi)) (λ u x. knownOf x ≡ told b u (knownOf (thread s u)))
-      (rw (eq-eqb i i refl) e) (λ u w. rw (ne-eqb i u (λ q. w (sym q)))) t
-
-  act-told : knownOf (thread (act s b) t) ≡ told b t (knownOf (thread s t))
-  unfolding toldBy
-  act-told = act-cases s b (λ s′. knownOf (thread s′ t) ≡ told b t (knownOf (thread s t)))
-      (λ q. set-told _ (omega arith) (omega arith) (rw q))
-      (λ q. set-told _ (omega arith) (omega arith) (rw q))
-      (λ q. set-told _ (omega arith) (omega arith) (rw q))
-      (λ q. set-told _ (omega arith) (omega arith) (rw q))
-      (λ q. set-told _ (omega arith) (omega arith) (rw q))
-      (λ n₁ n₂ n₃ n₄. silent (eqb i t) (ne-eqb _ _ n₁) (ne-eqb _ _ n₂) (ne-eqb _ _ n₃) (ne-eqb _ _ n₄))
-    where
-      silent : (z : Bool) → eqb (kindOf b) Event.create ≡ false → eqb (kindOf b) Event.ready ≡ false → eqb (kindOf b) Event.block ≡ false
-          → eqb (kindOf b) Event.end ≡ false
-          → knownOf (thread s t) ≡ cond z (toldBy b (knownOf (thread s t))) (knownOf (thread s t))
-      silent true e₁ e₂ e₃ e₄ = rw (toldBy, e₁, e₂, e₃, e₄)
-      silent false e₁ e₂ e₃ e₄ = refl
-
--- a tick or a resume tells nothing of any thread
-silent-kind : (b : List ℕ) (t : ℕ) (k : Known) → (kindOf b ≡ Event.tick → k ≡ told b t k) × (kindOf b ≡ Event.resume → k ≡ told b t k)
-unfolding toldBy
-silent-kind b t k = (λ q. go (eqb (threadOf b) t) (rw q), λ q. go (eqb (threadOf b) t) (rw q))
+-- what it tells of readiness, partition and mask is what it does to the record
+told-record : (b : List ℕ) (t : ℕ) (r : Thread) → knownOf (recordAfter b t r) ≡ told b t (knownOf r)
+unfolding recordBy toldBy
+told-record b t r =
+    go (eqb (threadOf b) t) (eqb (kindOf b) Event.create) (eqb (kindOf b) Event.ready) (eqb (kindOf b) Event.block)
+    (eqb (kindOf b) Event.setPriority) (eqb (kindOf b) Event.end)
+    (λ e. let k : kindOf b ≡ Event.setPriority = eqb-true _ _ e in ne-eqb (kindOf b) Event.end (omega arith))
   where
-    go : (z : Bool) → k ≡ toldBy b k → k ≡ cond z (toldBy b k) k
-    go true e = e
-    go false e = refl
+    go : (z₀ z₁ z₂ z₃ z₄ z₅ : Bool) → (z₄ ≡ true → z₅ ≡ false)
+        → knownOf (cond z₀ (cond z₁ (created (partitionOf b) (priorityOf b) (maskOf b)) (cond z₂ (withReady r true) (cond z₃ (withReady r false)
+        (cond z₄ (withPriority r (priorityOf b)) (cond z₅ absent r))))) r)
+        ≡ cond z₀ (cond z₁ (record { ready = false; partition = partitionOf b; mask = maskOf b })
+        (cond z₂ (record { ready = true; partition = r .partition; mask = r .mask })
+        (cond z₃ (record { ready = false; partition = r .partition; mask = r .mask })
+        (cond z₅ (record { ready = false; partition = 0; mask = 0 }) (knownOf r))))) (knownOf r)
+    go false z₁ z₂ z₃ z₄ z₅ h = refl
+    go true true z₂ z₃ z₄ z₅ h = refl
+    go true false true z₃ z₄ z₅ h = refl
+    go true false false true z₄ z₅ h = refl
+    go true false false false true z₅ h = rw (h refl)
+    go true false false false false true h = refl
+    go true false false false false false h = refl
 
 module _ (c : Settings) (v : Saved) (g : Good c v) (b : List ℕ) (a : Accepted (v .state) (v .history) b) where
-  pub after-told : (t : ℕ) → knownOf (thread (settle (apply v b) .state) t) ≡ told b t (knownOf (thread (v .state) t))
-  unfolding settle restart charge moveSlot
-  after-told t = apply-cases v b (λ x. knownOf (thread (settle x .state) t) ≡ told b t (knownOf (thread (v .state) t)))
-      (λ q. resumed q) (λ q. ticked q) (λ m n. acted)
-    where
-      r : Known
-      r = knownOf (thread (v .state) t)
-
-      resumed : kindOf b ≡ Event.resume → knownOf (thread (restart v (stampOf b) .state) t) ≡ told b t r
-      resumed q = silent-kind b t r .1 q
-
-      ticked : kindOf b ≡ Event.tick → knownOf (thread (moveSlot (charge v (stampOf b)) .state) t) ≡ told b t r
-      ticked q = silent-kind b t r .0 q
-
-      acted : knownOf (thread (act (charge v (stampOf b) .state) b) t) ≡ told b t r
-      acted = act-told (charge v (stampOf b) .state) b (g .lengths .threads) (named v b (g .lengths) a) t
+  after-told : (t : ℕ) → knownOf (thread (settle (apply v b) .state) t) ≡ told b t (knownOf (thread (v .state) t))
+  after-told t = ap knownOf (after-record c v g b a t) ∙ told-record b t (thread (v .state) t)
 
 -- over a list
 pub known-is : (c : Settings) (t : ℕ) (es : List Entry) (v : Saved) (k : Known) → Good c v → Log v es → k ≡ knownOf (thread (v .state) t)

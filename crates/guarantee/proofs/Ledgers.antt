@@ -7,6 +7,7 @@ use lib.ListN.{length, drop, length-set}
 use lib.Dec.{eqb}
 use borrow.Author.Tests.{eqb-true}
 use native.Mathlib.Omega.{arith}
+use Rattle.lists.proofs.Parts.{row-of}
 use Rattle.sheet.specs.Settings.{W, Limits}
 use Rattle.sheet.specs.declared.Settings.{Settings}
 use Rattle.model.specs.Event
@@ -14,13 +15,12 @@ use Rattle.model.specs.Event.{kindOf, elapsedAt, stampOf}
 use Rattle.model.specs.State.{wanted}
 use Rattle.model.specs.Step.{Saved, Answer, billed, settle, restart, apply}
 use Rattle.model.specs.Run.{Entry}
-use Rattle.model.proofs.Rows.{row-of}
 use Rattle.guarantee.specs.Demand3 as demand
 use Rattle.guarantee.specs.Demand3.{Last, lastOf, chargeOf}
 use Rattle.guarantee.specs.Ledger.{addFirst, ledger}
 use Rattle.guarantee.specs.Scheduler.{tick, other, share, Moved}
 use Rattle.guarantee.specs.Scheduler as abstract
-use Rattle.guarantee.proofs.Window.{add-first, shift, window, window-charge, window-tick}
+use Rattle.guarantee.proofs.Window.{shift, window, window-charge, window-tick}
 use Rattle.guarantee.proofs.Zeros.{zeros-row}
 use Rattle.guarantee.proofs.Answered.{Good, accepts, good-answer}
 use Rattle.guarantee.proofs.Applied.{apply-cases}
@@ -58,11 +58,11 @@ module _ (c : Settings) (p : ℕ) (inside : p < c .count) where
     mv : Moved (W c) (rows (W c)) (kindFor (kindOf b)) v (settle (apply v b)) p cost
     mv = good-moved c v b g p inside
 
-    by-other : kindFor (kindOf b) ≡ other → newestFirst c p (settle (apply v b)) ≡ add-first cost (newestFirst c p v)
+    by-other : kindFor (kindOf b) ≡ other → newestFirst c p (settle (apply v b)) ≡ addFirst cost (newestFirst c p v)
     by-other k =
         rw (mv .by-other-slot k, mv .by-other k) (window-charge (v .state .slot .0) cost (row-of (W c) (v .history) p) (rw len slot-in))
 
-    by-tick : kindFor (kindOf b) ≡ tick → newestFirst c p (settle (apply v b)) ≡ shift (W c) (add-first cost (newestFirst c p v))
+    by-tick : kindFor (kindOf b) ≡ tick → newestFirst c p (settle (apply v b)) ≡ shift (W c) (addFirst cost (newestFirst c p v))
     by-tick k =
         let slot : ℕ = v .state .slot .0 in
         let row : List ℕ = row-of (W c) (v .history) p in
@@ -125,7 +125,7 @@ module _ (c : Settings) (p : ℕ) (inside : p < c .count) where
               ih (e .answer .after) (lastOf e) ns (rw (lg .0) (good-answer c v b g)) (lg .1) (agrees c v g e (lg .0) q) n
               (ap (newestFirst c p) at ∙ s)
 
-          added : add-first (cost v b g ok) (newestFirst c p v) ≡ filled (W c) zs
+          added : addFirst (cost v b g ok) (newestFirst c p v) ≡ filled (W c) zs
           added = rw (w, ← charge-is p l v e h) (add-filled (W c) (chargeOf p l e) ys pos m)
 
           inner : (y : Bool) → eqb (kindOf b) Event.resume ≡ y → (x : Bool) → eqb (kindOf b) Event.tick ≡ x

@@ -18,7 +18,6 @@ pub mod Answered
 pub mod Fresh
 pub mod Soundness
 -- the decision
-pub mod Order
 pub mod Winner
 pub mod Chosen
 pub mod Decision

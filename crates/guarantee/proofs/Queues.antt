@@ -2,7 +2,7 @@
 use mathlib.Core.Logic.{_≢_}
 use mathlib.Core.Path.{_≡_, refl, sym, _∙_}
 use Prim.Native.Nat.{ℕ, zero, suc, _-_, _<_}
-use mathlib.Core.Bool.{Bool, true, false, not, _&&_, _||_}
+use mathlib.Core.Bool.{true, false, not, and-true, and-false, or-false}
 use mathlib.Core.List.{List, [], _∷_, _++_}
 use lib.ListN.{length, set, replicate}
 use lib.Seq.{getD-set-same, getD-set-other, take-append-seam, drop-append-seam}
@@ -12,7 +12,7 @@ use native.Mathlib.Omega.{arith}
 use native.Mathlib.Decide.{ℕ-discrete}
 use Rattle.lists.specs.Lists.{any, all, member, distinct}
 use Rattle.lists.proofs.Tests.{clash, both}
-use Rattle.lists.proofs.Lists.{member-append, member-without, without, distinct-append, distinct-keep, pigeonhole}
+use Rattle.lists.proofs.All.{member-append, member-without, without, distinct-snoc, distinct-keep, pigeonhole}
 use Rattle.model.specs.State.{absent, queueOf}
 use Rattle.model.specs.Step.{withQueue, leaves}
 use Rattle.model.specs.declared.Thread.{Thread}
@@ -69,17 +69,13 @@ module _ (ts : List Thread) (t : ℕ) (r : Thread) (inside : t < length ts) wher
   pub queue-joins : (q : List ℕ) → t < 64 → ReadyQueue ts q → member t q ≡ false → r .ready ≡ true → r .exists ≡ true
       → ReadyQueue (set ts t r) (q ++ (t ∷ []))
   unfolding any
-  queue-joins q b l out rdy ex = queue-set q (q ++ (t ∷ [])) l (distinct-append q t (l .once) out) few others (rdy ∙ sym here) (λ x. ex)
+  queue-joins q b l out rdy ex = queue-set q (q ++ (t ∷ [])) l (distinct-snoc q t ∙ rw (l .once, out)) few others (rdy ∙ sym here) (λ x. ex)
     where
       here : member t (q ++ (t ∷ [])) ≡ true
       here = rw (member-append t q (t ∷ []), out, eq-eqb t t refl)
 
       others : (u : ℕ) → u ≢ t → member u q ≡ member u (q ++ (t ∷ []))
-      others u w = rw (member-append u q (t ∷ []), ne-eqb u t w) (go (member u q))
-        where
-          go : (z : Bool) → z ≡ (z || false)
-          go true = refl
-          go false = refl
+      others u w = rw (member-append u q (t ∷ []), ne-eqb u t w) (sym (or-false (member u q)))
 
       few : (u : ℕ) → member u (q ++ (t ∷ [])) ≡ true → u < 64
       few u m = go (ℕ-discrete u t)
@@ -96,15 +92,7 @@ module _ (ts : List Thread) (t : ℕ) (r : Thread) (inside : t < length ts) wher
       (λ u m. l .inside u (both _ _ (sym (member-without q t u) ∙ m) .0)) others (rdy ∙ sym gone) (λ x. clash x rdy)
     where
       gone : member t (without t q) ≡ false
-      gone = rw (member-without q t t, eq-eqb t t refl) (go (member t q))
-        where
-          go : (z : Bool) → (z && false) ≡ false
-          go true = refl
-          go false = refl
+      gone = rw (member-without q t t, eq-eqb t t refl) (and-false (member t q))
 
       others : (u : ℕ) → u ≢ t → member u q ≡ member u (without t q)
-      others u w = rw (member-without q t u, ne-eqb u t w) (go (member u q))
-        where
-          go : (z : Bool) → z ≡ (z && true)
-          go true = refl
-          go false = refl
+      others u w = rw (member-without q t u, ne-eqb u t w) (sym (and-true (member u q)))

@@ -1,5 +1,5 @@
 -- What an accepted event does to every thread's record and to the ready queue, said by its bytes.
-use mathlib.Core.Path.{_≡_, refl, sym, ap, _∙_}
+use mathlib.Core.Path.{_≡_, refl, sym}
 use Prim.Native.Nat.{ℕ, _≤_}
 use mathlib.Core.Bool.{Bool, true, false, cond}
 use mathlib.Core.List.{List, [], _∷_, _++_}
@@ -7,12 +7,11 @@ use lib.ListN.{length, set}
 use lib.Dec.{eqb}
 use borrow.Author.Tests.{eq-eqb, ne-eqb}
 use native.Mathlib.Omega.{arith}
-use native.Mathlib.Decide.{ℕ-discrete}
 use Rattle.sheet.specs.declared.Settings.{Settings}
 use Rattle.model.specs.State.{thread, queueOf}
 use Rattle.model.specs.Event
-use Rattle.model.specs.Event.{kindOf, threadOf, priorityOf, stampOf}
-use Rattle.model.specs.Step.{Saved, withThread, withPriority, leaves, charge, moveSlot, act, settle, restart, apply}
+use Rattle.model.specs.Event.{kindOf, threadOf, stampOf}
+use Rattle.model.specs.Step.{Saved, leaves, charge, moveSlot, act, settle, restart, apply}
 use Rattle.model.specs.declared.Thread.{Thread}
 use Rattle.model.specs.declared.State.{State}
 use Rattle.model.specs.Facts.{threadAt, Accepted, Named}
@@ -27,7 +26,7 @@ abbrev pub recordAfter : List ℕ → ℕ → Thread → Thread
 recordAfter b t r = cond (eqb (threadOf b) t) (recordBy b r) r
 
 -- a kind that tells nothing of any thread
-pub silent : (b : List ℕ) (t : ℕ) (r : Thread) → recordBy b r ≡ r → r ≡ recordAfter b t r
+silent : (b : List ℕ) (t : ℕ) (r : Thread) → recordBy b r ≡ r → r ≡ recordAfter b t r
 silent b t r e = go (eqb (threadOf b) t)
   where
     go : (z : Bool) → r ≡ cond z (recordBy b r) r
@@ -43,23 +42,15 @@ module _ (s : State) (b : List ℕ) (len : length (s .threads) ≡ 64) (n : Name
   set-told t r lo hi e = at-set (s .threads) i r (rw len (n .thread-inside lo hi)) (λ u x. x ≡ recordAfter b u (thread s u))
       (rw (eq-eqb i i refl) e) (λ u w. rw (ne-eqb i u (λ q. w (sym q)))) t
 
-  act-priority : kindOf b ≡ Event.setPriority → act s b ≡ withThread s i (withPriority (thread s i) (priorityOf b))
-  unfolding act
-  act-priority q = rw q
-
   act-record : (t : ℕ) → thread (act s b) t ≡ recordAfter b t (thread s t)
   unfolding recordBy
-  act-record t = go (ℕ-discrete (kindOf b) Event.setPriority)
-    where
-      go : Dec (kindOf b ≡ Event.setPriority) → thread (act s b) t ≡ recordAfter b t (thread s t)
-      go (yes q) = ap (λ (x : State). thread x t) (act-priority q) ∙ set-told t _ (omega arith) (omega arith) (rw q)
-      go (no m) = act-cases s b (λ s′. thread s′ t ≡ recordAfter b t (thread s t))
-          (λ q. set-told t _ (omega arith) (omega arith) (rw q))
-          (λ q. set-told t _ (omega arith) (omega arith) (rw q))
-          (λ q. set-told t _ (omega arith) (omega arith) (rw q))
-          (λ q. absurd (m q))
-          (λ q. set-told t _ (omega arith) (omega arith) (rw q))
-          (λ n₁ n₂ n₃ n₅. silent b t (thread s t) (rw (recordBy, ne-eqb _ _ n₁, ne-eqb _ _ n₂, ne-eqb _ _ n₃, ne-eqb _ _ m, ne-eqb _ _ n₅)))
+  act-record t = act-cases s b (λ s′. thread s′ t ≡ recordAfter b t (thread s t))
+      (λ q. set-told t _ (omega arith) (omega arith) (rw q))
+      (λ q. set-told t _ (omega arith) (omega arith) (rw q))
+      (λ q. set-told t _ (omega arith) (omega arith) (rw q))
+      (λ q. set-told t _ (omega arith) (omega arith) (rw q))
+      (λ q. set-told t _ (omega arith) (omega arith) (rw q))
+      (λ n₁ n₂ n₃ n₄ n₅. silent b t (thread s t) (rw (recordBy, ne-eqb _ _ n₁, ne-eqb _ _ n₂, ne-eqb _ _ n₃, ne-eqb _ _ n₄, ne-eqb _ _ n₅)))
 
   act-queue : queueOf (act s b) ≡ queueBy b (queueOf s)
   unfolding queueBy
@@ -69,11 +60,7 @@ module _ (s : State) (b : List ℕ) (len : length (s .threads) ≡ 64) (n : Name
       (λ q. rw (queue-is _ (leaves (queueOf s) (threadOf b)), q))
       (λ q. rw q)
       (λ q. rw (queue-is _ (leaves (queueOf s) (threadOf b)), q))
-      (λ n₁ n₂ n₃ n₄. rw (ne-eqb _ _ n₂, ne-eqb _ _ n₃, ne-eqb _ _ n₄))
-
--- and nothing to the clock
-pub act-since : (s : State) (b : List ℕ) → act s b .since .0 ≡ s .since .0
-act-since s b = act-cases s b (λ s′. s′ .since .0 ≡ s .since .0) (λ q. refl) (λ q. refl) (λ q. refl) (λ q. refl) (λ q. refl) (λ n₁ n₂ n₃ n₄. refl)
+      (λ n₁ n₂ n₃ n₄ n₅. rw (ne-eqb _ _ n₂, ne-eqb _ _ n₃, ne-eqb _ _ n₅))
 
 module _ (c : Settings) (v : Saved) (g : Good c v) (b : List ℕ) (a : Accepted (v .state) (v .history) b) where
   pub after-record : (t : ℕ) → thread (settle (apply v b) .state) t ≡ recordAfter b t (thread (v .state) t)

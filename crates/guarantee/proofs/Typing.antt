@@ -11,7 +11,7 @@ use native.Mathlib.Omega.{arith}
 use native.Mathlib.Decide.{decLt, ℕ-discrete}
 use Rattle.lists.specs.Lists.{all}
 use Rattle.lists.proofs.Tests.{both}
-use Rattle.lists.proofs.Lists.{member-all}
+use Rattle.lists.proofs.All.{member-all}
 use Rattle.units.specs.declared.Cycles.{Cycles}
 use Rattle.model.specs.State.{thread, queueOf, used, wanted}
 use Rattle.model.specs.Typed.{Lengths, SettingsTyped, ThreadTyped, Words, Bytes, Typed}

@@ -11,6 +11,7 @@ use Rattle.sheet.specs.Sheet.{settingsOf}
 use Rattle.model.specs.State.{thread, queueOf, allows, idle, used, wanted}
 use Rattle.model.specs.Typed.{Words, Bytes, Typed}
 use Rattle.model.specs.Policy.{Decided, competing, hasBudget, idleMode, mode, before, decide}
+use Rattle.model.specs.Choices.{StrictWeak, Won}
 use Rattle.model.specs.Sound.{sound}
 use Rattle.model.specs.Event.{refusedState}
 use Rattle.model.specs.Step.{Saved, answer}
@@ -77,19 +78,8 @@ abbrev pub Idles : Type 0
 Idles = (s : State) (h : List ℕ) → sound s h ≡ true → IdleExactly s
 
 -- in each mode "comes before" is a strict weak order, so that there is a best
-pub record StrictWeak (R : ℕ → ℕ → Bool) : Type 0 where
-  pub asymmetric : (p q : ℕ) → R p q ≡ true → R q p ≡ false
-  pub negatively-transitive : (p q r : ℕ) → R p q ≡ false → R q r ≡ false → R p r ≡ false
-
 abbrev pub Orders : Type 0
 Orders = (s : State) (m : ℕ) → StrictWeak (before s m)
-
--- of the partitions below n that compete, none comes before w, and w comes before every one of lower number: it is the lowest of the best
-pub record Won (s : State) (n w : ℕ) : Type 0 where
-  pub inside : w < n
-  pub competes : competing s w ≡ true
-  pub unbeaten : (q : ℕ) → q < n → competing s q ≡ true → before s (mode s) q w ≡ false
-  pub lowest : (q : ℕ) → q < w → competing s q ≡ true → before s (mode s) w q ≡ true
 
 -- l has t at a place before which the test holds of none
 pub record FirstOf (test : ℕ → Bool) (l : List ℕ) (t : ℕ) : Type 0 where

@@ -1,13 +1,13 @@
 -- Clearing a slot and lowering the totals, one partition more; what a caller of both needs.
-use mathlib.Core.Path.{_≡_, refl, _∙_}
+use mathlib.Core.Path.{_≡_}
 use mathlib.Core.List.{List, _++_}
-use Prim.Native.Nat.{ℕ, zero, suc, _+_, _-_, _*_, _≤_, _<_}
+use Prim.Native.Nat.{ℕ, _+_, _-_, _*_, _≤_, _<_}
 use native.Mathlib.Omega.{arith}
 use native.Mathlib.Numerals.{add-one}
-use lib.ListN.{length, getD, set, take, drop, length-set, length-take, length-drop}
+use lib.ListN.{length, getD, set, take, drop, length-take, length-drop}
 use Rattle.lists.specs.Lists.{sum}
+use Rattle.lists.proofs.Sums.{entry-le}
 use Rattle.lists.proofs.Parts.{part-set, part-at, row-end}
-use Rattle.lists.proofs.RunningSums.{number-at-most}
 use Rattle.units.specs.declared.Cycles.{Cycles}
 use Rattle.model.specs.Step.{cycles, clearHistory, lowerUsed}
 use Rattle.history.specs.History.{Covered}
@@ -16,11 +16,6 @@ pub cleared-more : (w k : ℕ) (h now : List ℕ) (p n : ℕ) → k < n → now 
     → take (p * w) now ++ (set (take n (drop (p * w) now)) k 0 ++ drop n (drop (p * w) now)) ≡ clearHistory w k (p + 1) h
 unfolding clearHistory
 cleared-more w k h now p n b e = rw (part-set now (p * w) n k 0 b, e, add-one)
-
-pub length-cleared : (w k n : ℕ) (h : List ℕ) → length (clearHistory w k n h) ≡ length h
-unfolding clearHistory
-length-cleared w k zero h = refl
-length-cleared w k (suc p) h = length-set (clearHistory w k p h) (p * w + k) 0 ∙ length-cleared w k p h
 
 pub lowered-more : (w k p : ℕ) (u : List Cycles) (h : List ℕ)
     → set (lowerUsed w k p u h) p (cycles (getD u p (cycles 0) .0 - getD h (p * w + k) 0)) ≡ lowerUsed w k (p + 1) u h
@@ -33,4 +28,4 @@ pub covered : (w k n : ℕ) (u : List Cycles) (h : List ℕ) → k < w → n * w
 covered w k n u h inside room totals p b =
     let row : List ℕ = take w (drop (p * w) h) in
     let long : k < length row = simp (length-take, length-drop) (omega (arith, row-end p n w b)) in
-    omega (arith, totals p b, number-at-most row k long, part-at h (p * w) w k inside)
+    omega (arith, totals p b, entry-le row k long, part-at h (p * w) w k inside)

@@ -1,13 +1,13 @@
 -- What it says of a state, and of an event, that the door refuses it with no number.
-use mathlib.Core.Path.{_≡_, refl}
+use mathlib.Core.Path.{_≡_}
 use Prim.Native.Nat.{ℕ, _≤_}
-use mathlib.Core.Bool.{Bool, true, false, not, cond, _&&_}
+use mathlib.Core.Bool.{Bool, false, not, cond, _&&_}
 use mathlib.Core.List.{List}
 use lib.ListN.{length}
 use lib.Dec.{eqb, leb, ltb}
 use borrow.Author.Tests.{eqb-true, eqb-false, eq-eqb, ne-eqb, leb-false, le-leb, ltb-false, le-ltb, not-false}
 use native.Mathlib.Omega.{arith}
-use Rattle.lists.proofs.Tests.{clash, neither, passes}
+use Rattle.lists.proofs.Tests.{neither, and-right, passes, passes-number}
 use Rattle.sheet.specs.Settings.{withinLimits}
 use Rattle.model.specs.State.{thread, wanted}
 use Rattle.model.specs.Sound.{sound}
@@ -30,22 +30,10 @@ pub of-fit : (s : State) (h : List ℕ) → Fit s h → refusedState s h ≡ 0
 unfolding refusedState
 of-fit s h f = rw (of-limits (s .settings) (f .sound .settled .limits), le-ltb (length h) (wanted s) (f .room), of-sound s h (f .sound))
 
-and-false : (a b : Bool) → (a && b) ≡ false → a ≡ true → b ≡ false
-and-false true b e q = e
-and-false false b e q = clash {b = false} q refl
-
--- a number that refuses first, where it is not 0, and one that refuses after it are both 0
-pub state-first : (x n : ℕ) → cond (not (eqb x 0)) x n ≡ 0 → (x ≡ 0) × (n ≡ 0)
-state-first x n e = go (eqb x 0) refl e
-  where
-    go : (z : Bool) → eqb x 0 ≡ z → cond (not z) x n ≡ 0 → (x ≡ 0) × (n ≡ 0)
-    go true i q = (eqb-true x 0 i, q)
-    go false i q = absurd (eqb-false x 0 i q)
-
 pub accepted-of : (s : State) (h b : List ℕ) → refused s h b ≡ 0 → Accepted s h b
 unfolding refused refusedEvent tooLong namesThread wrongThread wrongPlace wrongReadiness
 accepted-of s h b e =
-    let (a₁, e₁) = state-first (refusedState s h) _ e in
+    let (a₁, e₁) = passes-number (refusedState s h) _ e in
     let (a₂, e₂) = passes (not (eqb (length b) 12)) 14 _ tt e₁ in
     let (a₃, e₃) = passes (not (wellFormed b)) 9 _ tt e₂ in
     let (a₄, e₄) = passes (tooLong s b) 10 _ tt e₃ in
@@ -56,15 +44,15 @@ accepted-of s h b e =
       fit = fit-of s h a₁;
       twelve = eqb-true _ _ (not-false _ a₂);
       formed = not-false _ a₃;
-      short = λ k. ltb-false _ _ (and-false (not (eqb (kindOf b) Event.resume)) _ a₄ (rw (ne-eqb _ _ k)));
+      short = λ k. ltb-false _ _ (and-right (not (eqb (kindOf b) Event.resume)) _ a₄ (rw (ne-eqb _ _ k)));
       named = record {
         thread-inside = λ lo hi. leb-false _ _ (named a₅ lo hi .0);
         absent = λ k. rw (eq-eqb _ _ k) at (named a₅ (omega arith) (omega arith) .1);
         exists = λ lo hi. not-false _ (rw (ne-eqb (kindOf b) Event.create (omega arith)) at (named a₅ (omega arith) hi .1));
-        partition-inside = λ k. leb-false _ _ (neither _ _ (and-false _ _ a₆ (eq-eqb _ _ k)) .0);
-        some-core = λ k. eqb-false _ _ (neither (leb (s .settings .count) (partitionOf b)) _ (and-false _ _ a₆ (eq-eqb _ _ k)) .1);
-        not-ready = λ k. and-false _ _ (neither _ _ a₇ .0) (eq-eqb _ _ k);
-        was-ready = λ k. not-false _ (and-false _ _ (neither (eqb (kindOf b) Event.ready && thread s (threadOf b) .ready) _ a₇ .1) (eq-eqb _ _ k));
+        partition-inside = λ k. leb-false _ _ (neither _ _ (and-right _ _ a₆ (eq-eqb _ _ k)) .0);
+        some-core = λ k. eqb-false _ _ (neither (leb (s .settings .count) (partitionOf b)) _ (and-right _ _ a₆ (eq-eqb _ _ k)) .1);
+        not-ready = λ k. and-right _ _ (neither _ _ a₇ .0) (eq-eqb _ _ k);
+        was-ready = λ k. not-false _ (and-right _ _ (neither (eqb (kindOf b) Event.ready && thread s (threadOf b) .ready) _ a₇ .1) (eq-eqb _ _ k));
       };
     }
   where
@@ -73,4 +61,4 @@ accepted-of s h b e =
 
     named : wrongThread s b ≡ false → Event.create ≤ kindOf b → kindOf b ≤ Event.end
         → (leb 64 (threadOf b) ≡ false) × (cond (eqb (kindOf b) Event.create) on (not on) ≡ false)
-    named q lo hi = neither _ _ (and-false (leb Event.create (kindOf b) && leb (kindOf b) Event.end) _ q (rw (le-leb _ _ lo, le-leb _ _ hi)))
+    named q lo hi = neither _ _ (and-right (leb Event.create (kindOf b) && leb (kindOf b) Event.end) _ q (rw (le-leb _ _ lo, le-leb _ _ hi)))

@@ -1,25 +1,24 @@
 -- What the code needs to know of its sums and indices in a sound state: none overflows, none is out of range.
 use mathlib.Core.Logic.{_≢_}
-use mathlib.Core.Path.{_≡_, refl}
-use Prim.Native.Nat.{ℕ, _+_, _*_, _≤_, _<_}
+use mathlib.Core.Path.{_≡_, refl, _∙_}
+use Prim.Native.Nat.{ℕ, zero, suc, _+_, _*_, _≤_, _<_}
 use mathlib.Core.Bool.{Bool, true, false, cond}
 use mathlib.Core.List.{List}
-use lib.ListN.{length, getD}
+use lib.ListN.{length, getD, length-set}
 use lib.Dec.{eqb}
 use borrow.Author.Tests.{eqb-false}
 use native.Mathlib.Omega.{arith}
 use native.Mathlib.Nat.{mul-le-mul-right}
-use Rattle.lists.specs.Lists.{sum}
-use Rattle.lists.proofs.Totals.{total-at}
-use Rattle.lists.proofs.ListSums.{entry-le, sum-le}
+use Rattle.lists.specs.Lists.{sum, member}
+use Rattle.lists.proofs.Sums.{total-at, sum-le}
+use Rattle.lists.proofs.Parts.{row-of, row-get, row-length}
 use Rattle.units.specs.declared.Cycles.{Cycles}
 use Rattle.sheet.specs.Settings.{W, C, Limits}
 use Rattle.sheet.specs.declared.Settings.{Settings}
-use Rattle.model.specs.State.{used, place, wanted}
-use Rattle.model.specs.Step.{next}
-use Rattle.model.specs.Facts.{Books, Settled, usedAt, charges}
+use Rattle.model.specs.State.{thread, queueOf, idle, used, place, wanted}
+use Rattle.model.specs.Step.{next, clearHistory}
+use Rattle.model.specs.Facts.{Books, Settled, Sound, usedAt, charges}
 use Rattle.model.specs.declared.State.{State}
-use Rattle.model.proofs.Rows.{row-of, in-rows, row-get, row-length}
 
 module _ (c : Settings) (u : List Cycles) (slot since : ℕ) (h : List ℕ) (lim : Limits c) (room : c .count * W c ≤ length h) (b : Books c u slot since h) where
   -- a number of the history's rows
@@ -36,6 +35,22 @@ module _ (c : Settings) (u : List Cycles) (slot since : ℕ) (h : List ℕ) (lim
       let most : W c * (2 * C c) ≤ 400 * (2 * C c) = mul-le-mul-right (2 * C c) (lim .window-high) in
       rw (b .totals p a) (omega (arith, rw len at high, most, lim .tick-high))
 
+-- the running thread's number is one of the 64, and its partition one of the sheet's
+pub running-inside : (s : State) (h : List ℕ) → Sound s h → s .running ≢ idle
+    → (s .running < 64) × (thread s (s .running) .partition < s .settings .count)
+running-inside s h g on =
+    let k : Settled s h = g .settled in
+    let t : ℕ = s .running in
+    let m : member t (queueOf s) ≡ true = g .runs .queued on in
+    let b : t < 64 = k .queue .inside t m in
+    (b, k .proper t b .partition (k .queue .exists t b (k .queue .ready t b ∙ m)))
+
+-- clearing a slot keeps the history's length
+pub clear-length : (w k n : ℕ) (h : List ℕ) → length (clearHistory w k n h) ≡ length h
+unfolding clearHistory
+clear-length w k zero h = refl
+clear-length w k (suc n) h = length-set (clearHistory w k n h) (n * w + k) 0 ∙ clear-length w k n h
+
 -- the next slot is one of the window's
 pub next-inside : (s : State) → s .slot .0 < W (s .settings) → next s < W (s .settings)
 next-inside s h = go (eqb (s .slot .0 + 1) (W (s .settings))) refl
@@ -45,16 +60,6 @@ next-inside s h = go (eqb (s .slot .0 + 1) (W (s .settings))) refl
     go false q = let w : s .slot .0 + 1 ≢ W (s .settings) = eqb-false _ _ q in omega arith
 
 module _ (s : State) (h : List ℕ) (room : wanted s ≤ length h) (k : Settled s h) where
-  -- the place of a number of the rows
-  pub place-inside : (p j : ℕ) → p < s .settings .count → j < W (s .settings) → place s p j < length h
-  place-inside p j a b = omega (arith, in-rows (W (s .settings)) (s .settings .count) p j a b, room)
-
-  -- clearing a slot lowers a total by no more than it is
-  pub clear-below : (p j : ℕ) → p < s .settings .count → j < W (s .settings) → getD h (place s p j) 0 ≤ used s p
-  clear-below p j a b =
-      let len : length (row-of (W (s .settings)) h p) ≡ W (s .settings) = row-length (W (s .settings)) h p (s .settings .count) a room in
-      omega (arith, entry-le (row-of (W (s .settings)) h p) j (rw len b), row-get (W (s .settings)) h p j b, k .books .totals p a)
-
   -- a charge keeps the number of the slot within 2 × C, and the total below 2 ^ 32
   pub charge-fits : (p e : ℕ) → p < s .settings .count → s .since .0 + e ≤ 2 * C (s .settings)
       → getD h (place s p (s .slot .0)) 0 + e ≤ 2 * C (s .settings)

@@ -8,7 +8,7 @@ use lib.Dec.{eqb, ltb}
 use borrow.Author.Tests.{eqb-true, eqb-false, eq-eqb, ne-eqb, leb-true, le-leb, ltb-true, lt-ltb, ltb-false, le-ltb, not-true}
 use Rattle.lists.specs.Lists.{member}
 use Rattle.lists.proofs.Tests.{both, and, or-right}
-use Rattle.lists.proofs.Lists.{all-below, below-all, all-member, member-all}
+use Rattle.lists.proofs.All.{all-below, below-all, all-member, member-all}
 use Rattle.sheet.specs.Settings.{share}
 use Rattle.model.specs.State.{absent, thread, queueOf, allows, idle, used}
 use Rattle.model.specs.Sound.{slotSum, soundHistory, soundThread, soundQueue, soundRest, soundRunning, sound}

@@ -7,16 +7,13 @@ use lib.Dec.{eqb, ltb}
 use borrow.Author.Tests.{eqb-true, eqb-false, eq-eqb, ne-eqb, ltb-true, ltb-false, le-ltb}
 use native.Mathlib.Omega.{arith}
 use native.Mathlib.Nat.{mul-le-mul-right, le-of-mul-le-mul-right}
+use Rattle.lists.proofs.Tests.{clash, neither, both}
 use Rattle.sheet.specs.Settings.{budget}
 use Rattle.units.specs.Units.{smallerFraction}
 use Rattle.model.specs.State.{used}
 use Rattle.model.specs.Policy.{hasBudget, topPriority, betterFraction, byBudget, byPriority, ratioPolicy, before, atLimit, freeTime}
+use Rattle.model.specs.Choices.{StrictWeak}
 use Rattle.model.specs.declared.State.{State}
-use Rattle.lists.proofs.Tests.{clash, neither, both}
-
-pub record Weak (R : ℕ → ℕ → Bool) : Type 0 where
-  pub asym : (a b : ℕ) → R a b ≡ true → R b a ≡ false
-  pub negtrans : (a b c : ℕ) → R a b ≡ false → R b c ≡ false → R a c ≡ false
 
 -- ---- first by a number, the larger being the better
 
@@ -43,15 +40,15 @@ false-lex a b r h f = rw (le-ltb a b h) (go (eqb a b) refl)
 abbrev byKey : (ℕ → ℕ) → (ℕ → ℕ → Bool) → ℕ → ℕ → Bool
 byKey key R p q = ltb (key q) (key p) || (eqb (key q) (key p) && R p q)
 
-by-key : (key : ℕ → ℕ) (R : ℕ → ℕ → Bool) → Weak R → Weak (byKey key R)
+by-key : (key : ℕ → ℕ) (R : ℕ → ℕ → Bool) → StrictWeak R → StrictWeak (byKey key R)
 by-key key R w = record {
-  asym = λ p q e.
+  asymmetric = λ p q e.
       let (le, tie) = lex-true (key q) (key p) (R p q) e in
-      false-lex (key p) (key q) (R q p) le (λ v. w .asym p q (tie (sym v)));
-  negtrans = λ p q r e f.
+      false-lex (key p) (key q) (R q p) le (λ v. w .asymmetric p q (tie (sym v)));
+  negatively-transitive = λ p q r e f.
       let (a, x) = lex-false (key q) (key p) (R p q) e in
       let (b, y) = lex-false (key r) (key q) (R q r) f in
-      false-lex (key r) (key p) (R p r) (omega arith) (λ v. w .negtrans p q r (x (omega arith)) (y (omega arith)));
+      false-lex (key r) (key p) (R p r) (omega arith) (λ v. w .negatively-transitive p q r (x (omega arith)) (y (omega arith)));
 }
 
 -- ---- the fraction
@@ -83,13 +80,13 @@ cross u₁ b₁ u₂ b₂ u₃ b₃ n h k =
     let z : u₃ * b₁ * b₂ ≤ u₁ * b₃ * b₂ = omega arith in
     le-of-mul-le-mul-right z (omega arith)
 
-by-fraction : (s : State) → Weak (betterFraction s)
+by-fraction : (s : State) → StrictWeak (betterFraction s)
 unfolding betterFraction
 by-fraction s = record {
-  asym = λ p q e.
+  asymmetric = λ p q e.
       let (n, lt) = frac-true (u p) (b p) (u q) (b q) e in
       false-frac (u q) (b q) (u p) (b p) (λ m. (n, omega (arith, lt m)));
-  negtrans = λ p q r e f. false-frac (u p) (b p) (u r) (b r) (λ n.
+  negatively-transitive = λ p q r e f. false-frac (u p) (b p) (u r) (b r) (λ n.
       let (m, x) = frac-false (u p) (b p) (u q) (b q) e n in
       let (l, y) = frac-false (u q) (b q) (u r) (b r) f m in
       (l, cross (u p) (b p) (u q) (b q) (u r) (b r) m x y));
@@ -106,7 +103,8 @@ by-fraction s = record {
 abbrev budgetKey : State → ℕ → ℕ
 budgetKey s p = cond (hasBudget s p) 1 0
 
-budget-key : (s : State) (p q : ℕ) (rest : Bool) → byBudget s p q rest ≡ (ltb (budgetKey s q) (budgetKey s p) || (eqb (budgetKey s q) (budgetKey s p) && rest))
+budget-key : (s : State) (p q : ℕ) (rest : Bool)
+    → byBudget s p q rest ≡ (ltb (budgetKey s q) (budgetKey s p) || (eqb (budgetKey s q) (budgetKey s p) && rest))
 unfolding byBudget
 budget-key s p q rest = go (hasBudget s p) (hasBudget s q)
   where
@@ -116,24 +114,27 @@ budget-key s p q rest = go (hasBudget s p) (hasBudget s q)
     go false true = refl
     go false false = refl
 
-by-budget : (s : State) (R : ℕ → ℕ → Bool) → Weak R → Weak (λ p q. byBudget s p q (R p q))
+by-budget : (s : State) (R : ℕ → ℕ → Bool) → StrictWeak R → StrictWeak (λ p q. byBudget s p q (R p q))
 by-budget s R w = record {
-  asym = λ p q e. budget-key s q p (R q p) ∙ k .asym p q (sym (budget-key s p q (R p q)) ∙ e);
-  negtrans = λ p q r e f. budget-key s p r (R p r) ∙ k .negtrans p q r (sym (budget-key s p q (R p q)) ∙ e) (sym (budget-key s q r (R q r)) ∙ f);
+  asymmetric = λ p q e. budget-key s q p (R q p) ∙ k .asymmetric p q (sym (budget-key s p q (R p q)) ∙ e);
+  negatively-transitive =
+      λ p q r e f. budget-key s p r (R p r)
+      ∙ k .negatively-transitive p q r (sym (budget-key s p q (R p q)) ∙ e) (sym (budget-key s q r (R q r)) ∙ f);
 }
   where
-    k : Weak (byKey (budgetKey s) R)
+    k : StrictWeak (byKey (budgetKey s) R)
     k = by-key (budgetKey s) R w
 
-by-priority : (s : State) (R : ℕ → ℕ → Bool) → Weak R → Weak (λ p q. byPriority s p q (R p q))
+by-priority : (s : State) (R : ℕ → ℕ → Bool) → StrictWeak R → StrictWeak (λ p q. byPriority s p q (R p q))
 unfolding byPriority
 by-priority s R w = by-key (topPriority s) R w
 
-pub weak : (s : State) (m : ℕ) → Weak (before s m)
+pub weak : (s : State) (m : ℕ) → StrictWeak (before s m)
 unfolding before
 weak s m = go (eqb m atLimit) (eqb m freeTime && ratioPolicy s)
   where
-    go : (x y : Bool) → Weak (λ p q. cond x (betterFraction s p q) (cond y (byBudget s p q (betterFraction s p q)) (byBudget s p q (byPriority s p q (betterFraction s p q)))))
+    go : (x y : Bool)
+        → StrictWeak (λ p q. cond x (betterFraction s p q) (cond y (byBudget s p q (betterFraction s p q)) (byBudget s p q (byPriority s p q (betterFraction s p q)))))
     go true y = by-fraction s
     go false true = by-budget s (betterFraction s) (by-fraction s)
     go false false = by-budget s (λ p q. byPriority s p q (betterFraction s p q)) (by-priority s (betterFraction s) (by-fraction s))

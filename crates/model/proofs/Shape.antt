@@ -5,10 +5,10 @@ use native.Mathlib.Omega.{arith}
 use mathlib.Core.List.{List, [], _∷_, map}
 use Prim.Native.Nat.{ℕ, zero, suc, _<_, _^_}
 use lib.ListN.{length, getD, length-map}
-use borrow.Author.Needs.{needs, length-unmapped, elem-fits-field}
+use borrow.Author.Needs.{length-unmapped, elem-fits-field}
 use base.Fml.{Fml}
-use mir.Val.{Val, Fits}
-use mir.Syntax.{w8, w32}
+use mir.Val.{Val}
+use mir.Syntax.{w8}
 use denote.Laws.{Is}
 use denote.Array.{each}
 use denote.Shadow.{shadow}
@@ -22,7 +22,6 @@ use Rattle.sheet.specs.declared.Settings.{Settings}
 use Rattle.model.specs.declared.Thread.{Thread}
 use Rattle.units.specs.declared.Cycles.{Cycles}
 use Rattle.units.specs.declared.Percent.{Percent}
-use Rattle.sheet.specs.Settings.{W, C, share}
 use Rattle.model.specs.State.{absent, thread, used}
 use Rattle.model.specs.Typed.{Lengths, SettingsTyped, ThreadTyped, Bytes}
 
@@ -95,6 +94,3 @@ shaped s g =
       queued = fields .1 .1 .1 .1 .1 .1 .1 .0 .1;
       running = fields .1 .1 .1 .1 .1 .1 .1 .1 .0 .1;
     }
-
-pub settings-shaped : (c : Settings) {vs : List Val} → Is Settings.the-row c vs → (length (c .shares) ≡ 16) × SettingsTyped c
-settings-shaped c {vs} g = settings-fit c vs g

@@ -8,15 +8,9 @@ use native.Mathlib.Decide.{decLt}
 use native.Mathlib.Nat.{not-suc-le-zero}
 use Rattle.lists.proofs.Tests.{clash}
 use Rattle.model.specs.Policy.{competing, mode, before, best, better, winner}
+use Rattle.model.specs.Choices.{Won}
 use Rattle.model.specs.declared.State.{State}
 use Rattle.model.proofs.Order.{weak}
-
--- of the partitions below n that compete, none comes before w, and w comes before every one of lower number
-pub record Won (s : State) (n w : ℕ) : Type 0 where
-  pub inside : w < n
-  pub competes : competing s w ≡ true
-  pub unbeaten : (q : ℕ) → q < n → competing s q ≡ true → before s (mode s) q w ≡ false
-  pub lowest : (q : ℕ) → q < w → competing s q ≡ true → before s (mode s) w q ≡ true
 
 module _ (s : State) where
   abbrev R : ℕ → ℕ → Bool
@@ -26,7 +20,7 @@ module _ (s : State) where
   irreflexive p = go (R p p) refl
     where
       go : (z : Bool) → R p p ≡ z → R p p ≡ false
-      go true e = weak s (mode s) .asym p p e
+      go true e = weak s (mode s) .asymmetric p p e
       go false e = e
 
   -- what holds of the best below n
@@ -72,10 +66,10 @@ module _ (s : State) where
         where
           go : (z : Bool) → R n q ≡ z → R n q ≡ true
           go true f = f
-          go false f = clash e (weak s (mode s) .negtrans n q w f (h .unbeaten q a d))
+          go false f = clash e (weak s (mode s) .negatively-transitive n q w f (h .unbeaten q a d))
 
       new : (q : ℕ) → R n w ≡ true → q < suc n → competing s q ≡ true → Dec (q < n) → R q n ≡ false
-      new q e b d (yes a) = weak s (mode s) .asym n q (old q e d a)
+      new q e b d (yes a) = weak s (mode s) .asymmetric n q (old q e d a)
       new q e b d (no a) = let v : q ≡ n = omega arith in rw v (irreflexive n)
 
       keep : (q : ℕ) → R n w ≡ false → q < suc n → competing s q ≡ true → Dec (q < n) → R q w ≡ false
@@ -83,8 +77,15 @@ module _ (s : State) where
       keep q e b d (no a) = let v : q ≡ n = omega arith in rw v e
 
       pick : (z : Bool) → R n w ≡ z → Won s (suc n) (cond z n w)
-      pick true e = record { inside = omega arith; competes = c; unbeaten = λ q b d. new q e b d (decLt q n); lowest = λ q b d. old q e d b }
-      pick false e = record { inside = omega (arith, h .inside); competes = h .competes; unbeaten = λ q b d. keep q e b d (decLt q n); lowest = h .lowest }
+      pick true e =
+          record { inside = omega arith; competes = c; unbeaten = λ q b d. new q e b d (decLt q n); lowest = λ q b d. old q e d b }
+      pick false e =
+          record {
+            inside = omega (arith, h .inside);
+            competes = h .competes;
+            unbeaten = λ q b d. keep q e b d (decLt q n);
+            lowest = h .lowest;
+          }
 
   best-is : (n : ℕ) → Best n (best s n)
   unfolding best

@@ -1,5 +1,6 @@
 pub mod State
 pub mod Policy
+pub mod Choices
 pub mod Sound
 pub mod Event
 pub mod Step

@@ -1,12 +1,12 @@
 -- What gives the decision what it needs: facts of the queue's members, as soundness has them.
-use mathlib.Core.Path.{_≡_, _∙_}
+use mathlib.Core.Path.{_≡_, refl, _∙_}
 use mathlib.Core.Bool.{true}
 use mathlib.Core.List.{List}
 use Prim.Native.Nat.{ℕ, _≤_, _<_}
 use native.Mathlib.Omega.{arith}
 use lib.ListN.{length, getD}
 use Rattle.lists.specs.Lists.{member}
-use Rattle.lists.proofs.Loops.{member-at}
+use Rattle.lists.proofs.Loops.{member-here}
 use Rattle.sheet.specs.Settings.{Limits}
 use Rattle.model.specs.State.{thread, queueOf}
 use Rattle.model.specs.Facts.{Settled}
@@ -25,7 +25,7 @@ bounded s limits long few numbers valid = record {
 }
   where
     queued : (i : ℕ) → i < s .queued → member (getD (s .queue) i 0) (queueOf s) ≡ true
-    queued i b = member-at (s .queue) (s .queued) i (omega (arith, long, few)) b
+    queued i b = member-here (s .queue) (getD (s .queue) i 0) i (s .queued) (omega (arith, long, few)) b refl
 
 -- a state that is sound, but perhaps for its running thread, has it
 pub settled-bounded : (s : State) (h : List ℕ) → length (s .queue) ≡ 64 → Settled s h → Bounded s

@@ -11,7 +11,7 @@ use lib.Seq.{getD-set-same, getD-set-other}
 use lib.Dec.{eqb}
 use borrow.Author.Tests.{eqb-true, eqb-false}
 use Rattle.lists.specs.Lists.{any, consIf, keep, maximum}
-use Rattle.lists.proofs.Lists.{any-append}
+use Rattle.lists.proofs.All.{any-append}
 use Rattle.lists.proofs.Loops.{keep-more, maximum-more}
 use Rattle.sheet.specs.Settings.{budget}
 use Rattle.model.specs.State.{thread, queueOf, allows}

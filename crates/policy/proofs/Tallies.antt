@@ -6,7 +6,8 @@ use mathlib.Core.List.{List}
 use lib.ListN.{getD}
 use lib.Dec.{eqb}
 use Rattle.lists.specs.Lists.{any}
-use Rattle.lists.proofs.Loops.{any-more, any-same}
+use Rattle.lists.proofs.All.{any-same}
+use Rattle.lists.proofs.Loops.{any-more}
 use Rattle.sheet.specs.Settings.{budget}
 use Rattle.model.specs.Policy.{competing, hasBudget, partitions, mode, idleMode, freeTime, underload, atLimit}
 use Rattle.model.specs.Answers.{modeOf}

@@ -21,7 +21,7 @@ use Rattle.model.specs.Answers.{Remainder, decisionLine, refusalLine}
 use Rattle.model.specs.Doors
 use Rattle.model.specs.Doors.{refusedRemaining, remainder}
 use Rattle.model.specs.declared.State.{State}
-use Rattle.model.proofs.Accepted.{state-first}
+use Rattle.lists.proofs.Tests.{passes-number}
 
 -- ---- what is refused
 
@@ -55,7 +55,7 @@ module _ (s : State) (h : List ℕ) where
     pub both-pass : refusedRemaining s h p ≡ 0 → (refusedState s h ≡ 0) × (p < s .settings .count)
     unfolding refusedRemaining
     both-pass e =
-        let (a, e₁) = state-first (refusedState s h) _ e in
+        let (a, e₁) = passes-number (refusedState s h) _ e in
         let (b, e₂) = passes (leb (s .settings .count) p) 12 0 tt e₁ in
         (a, leb-false _ _ b)
 

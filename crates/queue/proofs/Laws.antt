@@ -5,11 +5,12 @@ use Prim.Native.Nat.{ℕ, suc, _+_, _-_, _<_, _≤_}
 use mathlib.Core.Bool.{not}
 use native.Mathlib.Omega.{arith}
 use lib.Dec.{eqb}
-use lib.ListN.{length, getD, take, drop, set, replicate, length-append, length-take, length-drop, take-append-drop}
+use lib.ListN.{length, getD, take, set, replicate, length-append, length-take}
 use lib.Seq.{length-take-le, append-snoc, set-at, take-append-seam}
 use Rattle.lists.specs.Lists.{consIf}
-use Rattle.lists.proofs.Lists.{length-keep}
-use Rattle.lists.proofs.Prefixes.{keep-more, all-zeros}
+use Rattle.lists.proofs.All.{length-keep}
+use Rattle.lists.proofs.Tables.{zeros-after}
+use Rattle.lists.proofs.Loops.{keep-take}
 use Rattle.model.specs.Step.{leaves}
 use Rattle.model.specs.declared.State.{State}
 use Rattle.queue.specs.declared.Queue.{Queue}
@@ -59,16 +60,10 @@ appended q t s h =
 -- the queue of a state that has room, by itself
 pub room-from : (s : State) → length (s .queue) ≡ 64 → Room s → _≡_ {A = Queue} (record { entries = s .queue; length = s .queued }) (queueFrom (take (s .queued) (s .queue)))
 unfolding queueFrom
-room-from s full room = stored (s .queue) (s .queued) full (room .free) (all-zeros (drop (s .queued) (s .queue)) (room .zeros))
-  where
-    stored : (queue : List ℕ) (n : ℕ) → length queue ≡ 64 → n < 64 → drop n queue ≡ zeros (length (drop n queue))
-        → _≡_ {A = Queue} (record { entries = queue; length = n }) (queueFrom (take n queue))
-    stored queue n full free rest =
-        let few : n ≤ length queue = omega arith in
-        let c : length (take n queue) ≡ n = length-take-le n queue few in
-        let d : length (drop n queue) ≡ 64 - n = rw length-drop (omega arith) in
-        let z : drop n queue ≡ zeros (64 - n) = rest ∙ ap zeros d in
-        queue-eq (sym (take-append-drop n queue) ∙ rw (z, c)) (sym c)
+room-from s full room =
+    let free : s .queued < 64 = room .free in
+    queue-eq (zeros-after (s .queue) (s .queued) 64 full (omega arith) (room .zeros))
+    (sym (length-take-le (s .queued) (s .queue) (rw full (omega arith))))
 
 -- ---- the entries that stay when thread t leaves
 
@@ -78,7 +73,7 @@ leaves-few l t i = omega (arith, length-keep (λ u. not (eqb u t)) (take i l), l
 
 leaves-more : (l : List ℕ) (t i : ℕ) → i < length l → leaves (take (i + 1) l) t ≡ leaves (take i l) t ++ consIf (not (eqb (getD l i 0) t)) (getD l i 0) []
 unfolding leaves
-leaves-more l t i h = keep-more (λ u. not (eqb u t)) l i h
+leaves-more l t i h = keep-take (λ u. not (eqb u t)) l i h
 
 -- one more entry read
 pub left-more : (l : List ℕ) (t i : ℕ) (q r : Queue) → i < length l → q ≡ queueFrom (leaves (take i l) t)

@@ -41,7 +41,7 @@ use Rattle.guarantee.proofs.Answered.{Good, good-answer}
 use Rattle.events.specs.Kinds.{Able}
 use Rattle.events.proofs.Laws.{act-ready}
 use Rattle.policy.specs.Needs.{Bounded}
-use Rattle.policy.proofs.Bounds.{bounded}
+use Rattle.policy.proofs.Bounds.{settled-bounded}
 use Rattle.scheduler.specs.Answers.{Answered, Begun}
 use Rattle.scheduler.specs.declared.Answer.{Answer}
 use Rattle.scheduler.specs.declared.Started.{Started}
@@ -135,13 +135,7 @@ module _ (v : Saved) (b : List ℕ) where
 pub can-decide : (s : State) (h b : List ℕ) → Lengths s → Facts.Accepted s h b → (y : Saved) → y ≡ apply (saved s h) b → Bounded (y .state)
 can-decide s h b len a y e =
     let l : Left (saved s h) b (apply (saved s h) b) = apply-left (saved s h) b len a in
-    subst (λ (z : Saved). Bounded (z .state)) (sym e) (fair l)
-  where
-    fair : Left (saved s h) b (apply (saved s h) b) → Bounded (apply (saved s h) b .state)
-    fair l =
-        let k = l .settled in
-        bounded (apply (saved s h) b .state) (k .limits) (l .lengths .queue) (k .stored .few) (k .queue .inside)
-        (λ t m. let i = k .queue .inside t m in k .proper t i .partition (k .queue .exists t i (k .queue .ready t i ∙ m)))
+    subst (λ (z : Saved). Bounded (z .state)) (sym e) (settled-bounded _ _ (l .lengths .queue) (l .settled))
 
 -- ---- the answers
 

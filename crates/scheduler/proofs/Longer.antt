@@ -3,14 +3,14 @@ use mathlib.Core.Path.{_≡_, refl, sym, ap, ap₂, _∙_}
 use Prim.Native.Nat.{ℕ, suc, _+_, _-_, _*_, _/_, _≤_, _<_, min}
 use mathlib.Core.Bool.{Bool, true, false, cond}
 use mathlib.Core.List.{List, [], _∷_, _++_, map, append-assoc, append-nil}
-use lib.ListN.{length, take, drop, length-append, length-take, length-drop, length-map, drop-of-length-le}
+use lib.ListN.{length, take, drop, length-append, length-take, length-drop, drop-of-length-le}
 use lib.Seq.{take-all, take-at, drop-at, drop-drop}
 use lib.Dec.{eqb}
 use native.Mathlib.Omega.{arith}
 use native.Mathlib.Numerals.{add-one}
 use native.Mathlib.Decide.{decLe}
 use Rattle.lists.specs.Lists.{below}
-use Rattle.lists.proofs.Tables.{length-below}
+use Rattle.lists.proofs.Tables.{table-length}
 use Rattle.sheet.specs.Records.{digitsOf}
 use Rattle.sheet.specs.declared.Settings.{Settings}
 use Rattle.refusals.specs.Refusals.{numberOf, outcomeOf}
@@ -89,7 +89,7 @@ lines-length [] = refl
 lines-length (e ∷ es) = length-append (textOf (answerLine (e .answer))) (linesOf es) ∙ rw (text-length (answerLine (e .answer)), lines-length es) (omega arith)
 
 pub run-lines-length : (v : Saved) (bytes : List ℕ) (i : ℕ) → length (linesOf (run v (recordsOf bytes i))) ≡ 12 * i
-run-lines-length v bytes i = lines-length (run v (recordsOf bytes i)) ∙ rw (run-length v (recordsOf bytes i), length-map (below i) (recordAt bytes), length-below i)
+run-lines-length v bytes i = lines-length (run v (recordsOf bytes i)) ∙ rw (run-length v (recordsOf bytes i), table-length (recordAt bytes) i)
 
 -- ---- a run that has taken nothing yet
 

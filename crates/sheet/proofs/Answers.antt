@@ -1,14 +1,14 @@
 -- What is returned beside a number, and which number.
 use mathlib.Core.Path.{_≡_, refl, sym, ap, subst, _∙_}
 use Prim.Native.Nat.{ℕ, _-_, _<_, _≤_}
-use mathlib.Core.Bool.{Bool, true, false, not, cond}
+use mathlib.Core.Bool.{Bool, true, false, cond}
 use mathlib.Core.List.{List, _++_}
 use lib.ListN.{length, getD, drop, replicate}
 use lib.Dec.{eqb, ltb}
 use borrow.Author.Tests.{eqb-true, eq-eqb, ltb-false, lt-ltb, le-ltb}
 use native.Mathlib.Omega.{arith}
 use Rattle.lists.specs.Lists.{below, total}
-use Rattle.lists.proofs.Tests.{clash, passes}
+use Rattle.lists.proofs.Tests.{clash, passes, passes-number}
 use Rattle.units.specs.declared.Percent.{Percent}
 use Rattle.refusals.specs.Refusals.{outcomeOf}
 use Rattle.refusals.specs.declared.Refusal.{Refusal}
@@ -108,12 +108,9 @@ write-fits c n h s = rw (h, le-ltb n (sheetLength c) s)
 
 pub write-room : (c : Settings) (n : ℕ) → refusedWrite c n ≡ 0 → (refusedSettings c ≡ 0) × (sheetLength c ≤ n)
 unfolding refusedWrite
-write-room c n e = go (eqb (refusedSettings c) 0) refl e
-  where
-    go : (b : Bool) → eqb (refusedSettings c) 0 ≡ b → cond (not b) (refusedSettings c) (cond (ltb n (sheetLength c)) 7 0) ≡ 0
-        → (refusedSettings c ≡ 0) × (sheetLength c ≤ n)
-    go true h f = (eqb-true (refusedSettings c) 0 h, ltb-false n (sheetLength c) (passes (ltb n (sheetLength c)) 7 0 tt f .0))
-    go false h f = clash (eq-eqb (refusedSettings c) 0 f) h
+write-room c n e =
+    let (none, f) = passes-number (refusedSettings c) (cond (ltb n (sheetLength c)) 7 0) e in
+    (none, ltb-false n (sheetLength c) (passes (ltb n (sheetLength c)) 7 0 tt f .0))
 
 -- what is written fits the buffer
 pub written-fits : (c : Settings) (n : ℕ) → lengthWritten c n ≤ n

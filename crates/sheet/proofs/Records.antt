@@ -12,7 +12,8 @@ use borrow.Author.Tests.{eqb-true, leb-true}
 use native.Mathlib.Omega.{arith}
 use Rattle.lists.specs.Lists.{below}
 use Rattle.lists.proofs.Tests.{both}
-use Rattle.lists.proofs.Tables.{all-fails, table-filled, by-length}
+use Rattle.lists.proofs.All.{all-fails}
+use Rattle.lists.proofs.Tables.{table-filled, by-length}
 use Rattle.sheet.specs.Records.{numberFrom, framed, onlyIf, fieldOf, isValue, digitsOf, recordOf}
 use Rattle.sheet.specs.Sheet.{letterAt, numberAt, recordCount, wholeRecords, fieldAt, valueAt, valuesOf, recordsFormed, valueOf, recordsOf}
 use Rattle.sheet.specs.declared.Settings.{Settings}

@@ -11,7 +11,7 @@ use native.Mathlib.Omega.{arith}
 use native.Mathlib.Decide.{decLt}
 use native.Mathlib.Nat.{not-suc-le-zero}
 use Rattle.lists.proofs.Tests.{both, and}
-use Rattle.lists.proofs.Lists.{below-all}
+use Rattle.lists.proofs.All.{below-all}
 use Rattle.lists.proofs.Tables.{by-length}
 use Rattle.refusals.specs.Refusals.{outcomeOf}
 use Rattle.refusals.proofs.Laws.{accepted-is}

@@ -7,8 +7,8 @@ use lib.ListN.{length}
 use borrow.Author.Tests.{not-false}
 use native.Mathlib.Omega.{arith}
 use Rattle.lists.proofs.Tests.{passes}
-use Rattle.lists.proofs.Lists.{all-below}
-use Rattle.lists.proofs.Tables.{length-table, table-at}
+use Rattle.lists.proofs.All.{all-below}
+use Rattle.lists.proofs.Tables.{table-length, table-at}
 use Rattle.units.specs.declared.Percent.{Percent}
 use Rattle.sheet.specs.Settings.{share, withinLimits, refusedSettings}
 use Rattle.sheet.specs.Records.{isValue, valueIn}
@@ -26,7 +26,7 @@ share-is bs p h = ap (λ (x : Percent). x .0) (table-at (λ q. record { 0 = valu
 
 pub shares-length : (bs : List ℕ) → length (settingsOf bs .shares) ≡ 16
 unfolding settingsOf
-shares-length bs = length-table {A = Percent} (λ q. record { 0 = valueAt bs (4 + q) }) 16
+shares-length bs = table-length {A = Percent} (λ q. record { 0 = valueAt bs (4 + q) }) 16
 
 -- ---- a sheet that is not refused
 

@@ -8,7 +8,7 @@ use native.Mathlib.Omega.{arith}
 use native.Mathlib.Nat.{mul-assoc}
 use Rattle.lists.specs.Lists.{total}
 use Rattle.lists.proofs.Tests.{both, and, passes}
-use Rattle.lists.proofs.Totals.{total-at}
+use Rattle.lists.proofs.Sums.{total-at}
 use Rattle.units.specs.Units.{budgetOf}
 use Rattle.units.proofs.Laws.{budget-is, budget-whole, budget-most}
 use Rattle.sheet.specs.Settings.{W, C, share, budget, windowFits, tickFits, policyAndCoreFit, countFits, sharesFit, withinLimits, Limits, refusedNumbers, refusedSettings}

@@ -2,15 +2,14 @@
 use mathlib.Core.Path.{_≡_, _∙_}
 use Prim.Native.Nat.{ℕ, _+_, _<_}
 use mathlib.Core.Bool.{Bool, true, false, _||_, or-true, or-false}
-use mathlib.Core.List.{List, [], _∷_}
+use mathlib.Core.List.{List, []}
 use lib.Dec.{eqb}
 use lib.ListN.{length, getD, set, take, replicate, getD-replicate}
-use lib.Seq.{take-suc, getD-set-same, getD-set-other}
-use native.Mathlib.Numerals.{add-one}
+use lib.Seq.{getD-set-same, getD-set-other}
 use native.Mathlib.Decide.{ℕ-discrete}
 use borrow.Author.Tests.{eq-eqb, ne-eqb}
 use Rattle.lists.specs.Lists.{any, member}
-use Rattle.lists.proofs.Lists.{member-append}
+use Rattle.lists.proofs.Loops.{any-take}
 use Rattle.soundness.specs.Marked.{Holds}
 
 pub unmarked : Holds (replicate 256 false) []
@@ -21,7 +20,7 @@ pub marks-more : (l : List ℕ) (i : ℕ) (seen : List Bool) → i < length l �
     → Holds (set seen (getD l i 0) true) (take (i + 1) l)
 unfolding any
 marks-more l i seen h full byte m t b =
-    rw (add-one, take-suc l i 0 h, member-append t (take i l) (getD l i 0 ∷ []), or-false (eqb t (getD l i 0))) (go (ℕ-discrete t (getD l i 0)))
+    rw (any-take (eqb t) l i h) (go (ℕ-discrete t (getD l i 0)))
   where
     e : ℕ
     e = getD l i 0

@@ -1,11 +1,9 @@
 -- What the steps need of a sound state, and their results as the model's.
-use mathlib.Core.Path.{_≡_, refl, sym, ap, _∙_}
+use mathlib.Core.Path.{_≡_}
 use Prim.Native.Nat.{ℕ, _+_, _*_, _≤_, _<_, _^_}
-use mathlib.Core.Bool.{Bool, true, false, cond}
 use mathlib.Core.List.{List}
 use lib.ListN.{length, getD, set, replicate}
-use lib.Dec.{eqb}
-use borrow.Author.Tests.{eq-eqb, ne-eqb, eqb-false}
+use borrow.Author.Tests.{eq-eqb, ne-eqb}
 use native.Mathlib.Omega.{arith}
 use Rattle.lists.proofs.Parts.{row-end}
 use Rattle.units.specs.Units.{elapsedOf}
@@ -13,10 +11,10 @@ use Rattle.units.specs.declared.Cycles.{Cycles}
 use Rattle.units.specs.declared.Ticks.{Ticks}
 use Rattle.sheet.specs.Settings.{W, C}
 use Rattle.model.specs.State.{thread, used, wanted}
-use Rattle.model.specs.Facts.{Settled, Sound}
+use Rattle.model.specs.Facts.{Sound}
 use Rattle.model.specs.Step.{saved, cycles, withClock, withUsed, billed, addUsed, addHistory, charge, next, clearHistory, lowerUsed, moveSlot, zeroRows, restart}
 use Rattle.model.specs.declared.State.{State}
-use Rattle.model.proofs.Bounds.{charge-fits, total-fits}
+use Rattle.model.proofs.Bounds.{running-inside, charge-fits, total-fits}
 
 -- ---- the charge
 
@@ -36,10 +34,7 @@ pub record Pays (s : State) (h : List ℕ) (e : ℕ) : Type 0 where
 pub pays : (s : State) (h : List ℕ) (e : ℕ) → Sound s h → wanted s ≤ length h → s .since .0 + e ≤ 2 * C (s .settings) → (s .running ≡ 255 → ⊥) → Pays s h e
 pays s h e g room few on =
     let k = g .settled in
-    let t : ℕ = s .running in
-    let m = g .runs .queued on in
-    let b : t < 64 = k .queue .inside t m in
-    let p : payer s < s .settings .count = k .proper t b .partition (k .queue .exists t b (k .queue .ready t b ∙ m)) in
+    let (b, p) = running-inside s h g on in
     record {
       running = b;
       sixteen = omega (arith, k .limits .count-high);
@@ -61,14 +56,6 @@ unfolding charge billed addUsed addHistory
 charged-to s h h′ stamp e q n i = rw (i, q, ne-eqb (s .running) 255 n)
 
 -- ---- the move to the next slot
-
--- the next slot is one of the window
-pub next-inside : (s : State) → s .slot .0 < W (s .settings) → next s < W (s .settings)
-next-inside s b = go (eqb (s .slot .0 + 1) (W (s .settings))) refl
-  where
-    go : (z : Bool) → eqb (s .slot .0 + 1) (W (s .settings)) ≡ z → cond z 0 (s .slot .0 + 1) < W (s .settings)
-    go true e = omega arith
-    go false e = let w = eqb-false (s .slot .0 + 1) (W (s .settings)) e in omega arith
 
 pub moved : (s : State) (h : List ℕ) (n : Ticks) (u : List Cycles) (h′ : List ℕ) → n .0 ≡ next s
     → u ≡ lowerUsed (W (s .settings)) (n .0) (s .settings .count) (s .used) h → h′ ≡ clearHistory (W (s .settings)) (n .0) (s .settings .count) h

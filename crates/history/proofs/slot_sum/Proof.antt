@@ -6,7 +6,7 @@ use lib.ListN.{length, getD}
 use denote.Ref.{now}
 use Rattle.lists.specs.Lists.{total}
 use Rattle.lists.proofs.Parts.{row-end}
-use Rattle.lists.proofs.RunningSums.{total-more}
+use Rattle.lists.proofs.Loops.{total-more}
 use Rattle.history.proofs.slot_sum.Statement.{statement}
 use Rattle.history.proofs.slot_sum.Tie as tie
 

@@ -6,7 +6,7 @@ use lib.ListN.{length, take}
 use lib.Seq.{take-length}
 use denote.Ref.{now}
 use Rattle.lists.specs.Lists.{sum}
-use Rattle.lists.proofs.RunningSums.{sum-more}
+use Rattle.lists.proofs.Loops.{sum-more}
 use Rattle.history.proofs.sum_row.Statement.{statement}
 use Rattle.history.proofs.sum_row.Tie as tie
 

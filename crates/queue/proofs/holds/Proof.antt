@@ -5,7 +5,7 @@ use native.Mathlib.Omega.{arith}
 use borrow.Author.Needs.{needs}
 use lib.ListN.{length, take}
 use Rattle.lists.specs.Lists.{any, member}
-use Rattle.lists.proofs.Prefixes.{take-min, member-here, member-next}
+use Rattle.lists.proofs.Loops.{take-min, member-here, member-next}
 use Rattle.queue.proofs.holds.Statement.{statement}
 use Rattle.queue.proofs.holds.Tie as tie
 

@@ -5,7 +5,7 @@ use borrow.Author.Needs.{needs}
 use mathlib.Core.List.{List}
 use lib.ListN.{length, take}
 use Rattle.lists.specs.Lists.{keep}
-use Rattle.lists.proofs.Prefixes.{take-min}
+use Rattle.lists.proofs.Loops.{take-min}
 use Rattle.model.specs.Step.{leaves}
 use Rattle.queue.specs.declared.Queue.{Queue}
 use Rattle.queue.specs.Entries.{queueFrom}

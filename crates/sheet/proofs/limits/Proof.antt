@@ -1,6 +1,6 @@
 use mathlib.Core.Path.{sym}
-use Rattle.sheet.specs.Settings.{W, C, share, refusedSettings}
 use Rattle.lists.specs.Lists.{total}
+use Rattle.sheet.specs.Settings.{W, C, share, refusedSettings}
 use Rattle.sheet.proofs.Within.{too-many}
 use borrow.Author.Needs.{needs}
 use Rattle.sheet.proofs.limits.Statement.{statement}

@@ -1,8 +1,9 @@
 use Prim.Native.Nat.{_<_}
 use denote.Ref.{now}
 use Rattle.sheet.specs.Settings.{W}
+use Rattle.model.proofs.Bounds.{next-inside}
 use Rattle.history.proofs.Laws.{covered}
-use Rattle.window.proofs.Laws.{next-inside, moved}
+use Rattle.window.proofs.Laws.{moved}
 use borrow.Author.Needs.{needs}
 use Rattle.window.proofs.move_slot.Statement.{statement}
 use Rattle.window.proofs.move_slot.Tie as tie

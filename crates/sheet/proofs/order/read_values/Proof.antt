@@ -1,4 +1,4 @@
-use mathlib.Core.Path.{_≡_, refl, _∙_}
+use mathlib.Core.Path.{_≡_, refl, sym, _∙_}
 use mathlib.Core.Bool.{true}
 use mathlib.Core.List.{_++_, map}
 use Prim.Native.Nat.{_≤_, _<_, _-_}
@@ -7,7 +7,9 @@ use borrow.Author.Needs.{needs}
 use denote.Ref.{now}
 use lib.ListN.{replicate}
 use Rattle.lists.specs.Lists.{below, all}
-use Rattle.lists.proofs.Tables.{table-more, all-more}
+use Rattle.lists.proofs.Tests.{and}
+use Rattle.lists.proofs.Tables.{table-more}
+use Rattle.lists.proofs.Loops.{all-next}
 use Rattle.sheet.specs.Records.{isValue}
 use Rattle.sheet.specs.Sheet.{recordCount, fieldAt, valueAt, recordsFormed}
 use Rattle.sheet.proofs.Records.{whole-of, field-is, value-is, formed-not, values-are}
@@ -92,7 +94,7 @@ loop-again c =
     let room : turn .i < 20 = omega
     (arith, whole-of bs (c .before .before .before .before .before .before .before .before .before .before .pre) .high) in (
       omega arith,
-      all-more (λ j. isValue (fieldAt bs j)) (turn .i) (turn .inv .1) (value .1),
+      sym (all-next (λ j. isValue (fieldAt bs j)) (turn .i)) ∙ and (turn .inv .1) (value .1),
       rw (turn .inv .2, ← value .0) (table-more (valueAt bs) 0 20 (turn .i) room),
     )
 

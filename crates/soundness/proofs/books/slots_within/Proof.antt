@@ -9,7 +9,7 @@ use lib.Dec.{leb}
 use lib.ListN.{getD}
 use denote.Ref.{now}
 use Rattle.lists.specs.Lists.{all, below, total}
-use Rattle.lists.proofs.Scans.{all-next}
+use Rattle.lists.proofs.Loops.{all-next}
 use Rattle.soundness.proofs.books.slots_within.Statement.{statement}
 use Rattle.soundness.proofs.books.slots_within.Tie as tie
 

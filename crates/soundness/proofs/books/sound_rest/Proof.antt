@@ -6,7 +6,7 @@ use native.Mathlib.Omega.{arith}
 use mathlib.Core.Bool.{Bool, _&&_, _||_}
 use lib.Dec.{ltb, eqb}
 use Rattle.lists.specs.Lists.{all, below}
-use Rattle.lists.proofs.Scans.{all-next}
+use Rattle.lists.proofs.Loops.{all-next}
 use Rattle.sheet.specs.Settings.{share}
 use Rattle.model.specs.State.{used}
 use Rattle.model.specs.Sound.{soundRest}

@@ -7,8 +7,8 @@ use mathlib.Core.List.{List}
 use lib.Dec.{eqb}
 use denote.Ref.{now}
 use Rattle.lists.specs.Lists.{all, below, sum}
-use Rattle.lists.proofs.Scans.{all-next}
 use Rattle.lists.proofs.Parts.{row-end}
+use Rattle.lists.proofs.Loops.{all-next}
 use Rattle.sheet.specs.Settings.{W}
 use Rattle.model.specs.State.{used, row}
 use Rattle.model.specs.declared.State.{State}

@@ -7,7 +7,7 @@ use mir.Syntax.{w8}
 use lib.Dec.{ltb}
 use lib.ListN.{length, take, getD, length-set}
 use Rattle.lists.specs.Lists.{all, any, distinct}
-use Rattle.lists.proofs.Scans.{all-take, distinct-take}
+use Rattle.lists.proofs.Loops.{all-take, distinct-take}
 use Rattle.soundness.specs.Marked.{Holds}
 use Rattle.soundness.proofs.Marking.{marks-more, unmarked}
 use Rattle.soundness.proofs.queue.mark.Statement.{statement}

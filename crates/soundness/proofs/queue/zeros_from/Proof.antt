@@ -7,7 +7,7 @@ use mathlib.Core.Bool.{_&&_, and-true}
 use lib.Dec.{eqb}
 use lib.ListN.{length, drop}
 use Rattle.lists.specs.Lists.{all}
-use Rattle.lists.proofs.Scans.{all-drop, all-past}
+use Rattle.lists.proofs.Loops.{all-drop, all-past}
 use Rattle.soundness.proofs.queue.zeros_from.Statement.{statement}
 use Rattle.soundness.proofs.queue.zeros_from.Tie as tie
 

@@ -5,7 +5,7 @@ use Prim.Native.Nat.{ℕ, _≤_, _-_}
 use native.Mathlib.Omega.{arith}
 use mathlib.Core.Bool.{Bool}
 use Rattle.lists.specs.Lists.{all, below}
-use Rattle.lists.proofs.Scans.{all-next}
+use Rattle.lists.proofs.Loops.{all-next}
 use Rattle.model.specs.State.{thread}
 use Rattle.model.specs.Sound.{soundThread}
 use Rattle.model.specs.declared.State.{State}

@@ -1,17 +1,17 @@
--- Laws of all, any, keep, member and distinct.
+-- Laws of all, any, keep, member, distinct and maximum.
 use mathlib.Core.Logic.{_≢_}
 use mathlib.Core.Path.{_≡_, refl, sym, ap, _∙_}
-use Prim.Native.Nat.{ℕ, zero, suc, _≤_, _<_}
-use mathlib.Core.Bool.{Bool, true, false, not, _&&_, _||_, or-assoc, and-assoc, and-comm}
-use mathlib.Core.List.{List, [], _∷_, _++_}
-use lib.ListN.{length}
+use Prim.Native.Nat.{ℕ, zero, suc, max, _≤_, _<_}
+use mathlib.Core.Bool.{Bool, true, false, not, _&&_, _||_, or-true, or-assoc, and-assoc, and-comm}
+use mathlib.Core.List.{List, [], _∷_, _++_, map}
+use lib.ListN.{length, replicate}
 use lib.Dec.{eqb}
 use borrow.Author.Tests.{eqb-true, eqb-false, eq-eqb, ne-eqb, not-true}
 use native.Mathlib.Omega.{arith}
 use native.Mathlib.Nat.{not-suc-le-zero}
-use native.Mathlib.Decide.{decLt}
-use Rattle.lists.specs.Lists.{below, any, all, consIf, keep, member, distinct}
-use Rattle.lists.proofs.Tests.{clash, both, and, neither}
+use native.Mathlib.Decide.{decLe, decLt}
+use Rattle.lists.specs.Lists.{below, any, all, consIf, keep, maximum, member, distinct}
+use Rattle.lists.proofs.Tests.{clash, both, and, neither, same}
 
 -- ---- all and any, over a joined list and over the numbers below n
 
@@ -41,6 +41,13 @@ module _ (f : ℕ → Bool) where
   below-all zero h = refl
   below-all (suc n) h = all-append f (below n) (n ∷ []) ∙ and (below-all n (λ i b. h i (omega arith))) (and (h n (omega arith)) refl)
 
+  pub all-fails : (n i : ℕ) → i < n → f i ≡ false → all f (below n) ≡ false
+  all-fails n i b h = go (all f (below n)) refl
+    where
+      go : (z : Bool) → all f (below n) ≡ z → z ≡ false
+      go true e = clash (all-below n e i b) h
+      go false e = refl
+
   pub any-below : (n : ℕ) → any f (below n) ≡ true → (i : ℕ) × (i < n) × (f i ≡ true)
   unfolding any below
   any-below zero e = clash e refl
@@ -68,6 +75,12 @@ module _ (f : ℕ → Bool) where
       go true q = refl
       go false q = clash e (none-below n q i h)
 
+pub any-same : (f g : ℕ → Bool) (n : ℕ) → ((p : ℕ) → p < n → f p ≡ g p) → any f (below n) ≡ any g (below n)
+any-same f g n h =
+    same (any f (below n)) (any g (below n))
+    (λ e. let (i, b, t) = any-below f n e in below-any g n i b (sym (h i b) ∙ t))
+    (λ e. let (i, b, t) = any-below g n e in below-any f n i b (h i b ∙ t))
+
 -- ---- members
 
 module _ (f : ℕ → Bool) where
@@ -89,41 +102,88 @@ module _ (f : ℕ → Bool) where
       go t true m = refl
       go t false m = m
 
-  -- a kept member is a member for which f holds
-  pub member-keep : (l : List ℕ) (t : ℕ) → member t (keep f l) ≡ (member t l && f t)
-  unfolding keep any
-  member-keep [] t = refl
-  member-keep (x ∷ l) t = go (f x) refl (eqb t x) refl (member-keep l t)
+  pub any-member : (l : List ℕ) (u : ℕ) → member u l ≡ true → f u ≡ true → any f l ≡ true
+  unfolding any
+  any-member [] u m h = clash m refl
+  any-member (x ∷ l) u m h = go (eqb u x) refl m (λ a. any-member l u a h)
     where
-      go : (y : Bool) → f x ≡ y → (z : Bool) → eqb t x ≡ z → member t (keep f l) ≡ (member t l && f t)
-          → member t (consIf y x (keep f l)) ≡ ((z || member t l) && f t)
-      go true p true q ih = let w : t ≡ x = eqb-true t x q in rw (q, w, p)
-      go true p false q ih = rw q ih
-      go false p true q ih = let w : t ≡ x = eqb-true t x q in rw (ih, w, p) (and-comm (member x l) false)
-      go false p false q ih = ih
-
-  pub distinct-keep : (l : List ℕ) → distinct l ≡ true → distinct (keep f l) ≡ true
-  unfolding keep distinct
-  distinct-keep [] e = refl
-  distinct-keep (x ∷ l) e = go (f x) (both (not (member x l)) (distinct l) e) (λ a. distinct-keep l a)
-    where
-      go : (y : Bool) → (not (member x l) ≡ true) × (distinct l ≡ true) → (distinct l ≡ true → distinct (keep f l) ≡ true)
-          → distinct (consIf y x (keep f l)) ≡ true
-      go true p ih = let out : not (member x (keep f l)) ≡ true = rw (member-keep l x, not-true (member x l) (p .0)) in and out (ih (p .1))
-      go false p ih = ih (p .1)
+      go : (z : Bool) → eqb u x ≡ z → (z || member u l) ≡ true → (member u l ≡ true → any f l ≡ true) → (f x || any f l) ≡ true
+      go true q k ih = let w : u ≡ x = eqb-true u x q in rw (← w, h)
+      go false q k ih = rw (ih k) (or-true (f x))
 
 pub member-append : (t : ℕ) (a b : List ℕ) → member t (a ++ b) ≡ (member t a || member t b)
 member-append t a b = any-append (eqb t) a b
 
-pub distinct-append : (l : List ℕ) (t : ℕ) → distinct l ≡ true → member t l ≡ false → distinct (l ++ (t ∷ [])) ≡ true
+-- a kept member is a member for which f holds
+pub member-keep : (f : ℕ → Bool) (l : List ℕ) (t : ℕ) → member t (keep f l) ≡ (member t l && f t)
+unfolding keep any
+member-keep f [] t = refl
+member-keep f (x ∷ l) t = go (f x) refl (eqb t x) refl (member-keep f l t)
+  where
+    go : (y : Bool) → f x ≡ y → (z : Bool) → eqb t x ≡ z → member t (keep f l) ≡ (member t l && f t)
+        → member t (consIf y x (keep f l)) ≡ ((z || member t l) && f t)
+    go true p true q ih = let w : t ≡ x = eqb-true t x q in rw (q, w, p)
+    go true p false q ih = rw q ih
+    go false p true q ih = let w : t ≡ x = eqb-true t x q in rw (ih, w, p) (and-comm (member x l) false)
+    go false p false q ih = ih
+
+-- ---- keep
+
+module _ {A : Type 0} (f : A → Bool) where
+  pub keep-append : (a b : List A) → keep f (a ++ b) ≡ keep f a ++ keep f b
+  unfolding keep
+  keep-append [] b = refl
+  keep-append (x ∷ a) b = go (f x) (keep-append a b)
+    where
+      go : (y : Bool) → keep f (a ++ b) ≡ keep f a ++ keep f b → consIf y x (keep f (a ++ b)) ≡ consIf y x (keep f a) ++ keep f b
+      go true e = ap (λ (l : List A). x ∷ l) e
+      go false e = e
+
+  -- keep never lengthens a list
+  pub length-keep : (l : List A) → length (keep f l) ≤ length l
+  unfolding keep
+  length-keep [] = omega arith
+  length-keep (x ∷ l) = go (f x) (length-keep l)
+    where
+      go : (y : Bool) → length (keep f l) ≤ length l → length (consIf y x (keep f l)) ≤ suc (length l)
+      go true h = omega arith
+      go false h = omega arith
+
+-- what is kept twice is kept by both tests together
+pub keep-both : {A : Type 0} (f g h : A → Bool) → ((x : A) → h x ≡ (f x && g x)) → (l : List A) → keep g (keep f l) ≡ keep h l
+unfolding keep
+keep-both f g h e [] = refl
+keep-both f g h e (x ∷ l) = rw (e x, ← keep-both f g h e l) (go (f x) (g x) refl)
+  where
+    go : (y z : Bool) → g x ≡ z → keep g (consIf y x (keep f l)) ≡ consIf (y && z) x (keep g (keep f l))
+    go true z q = rw q
+    go false z q = refl
+
+-- ---- distinct
+
+eqb-sym : (a b : ℕ) → eqb a b ≡ eqb b a
+eqb-sym a b = same (eqb a b) (eqb b a) (λ e. eq-eqb b a (sym (eqb-true a b e))) (λ e. eq-eqb a b (sym (eqb-true b a e)))
+
+pub distinct-snoc : (a : List ℕ) (x : ℕ) → distinct (a ++ (x ∷ [])) ≡ (distinct a && not (member x a))
 unfolding distinct any
-distinct-append [] t e m = refl
-distinct-append (x ∷ l) t e m =
-    let n : (eqb t x ≡ false) × (member t l ≡ false) = neither (eqb t x) (member t l) m in
-    let d : (not (member x l) ≡ true) × (distinct l ≡ true) = both (not (member x l)) (distinct l) e in
-    let apart : eqb x t ≡ false = ne-eqb x t (λ q. eqb-false t x (n .0) (sym q)) in
-    let out : not (member x (l ++ (t ∷ []))) ≡ true = rw (member-append x l (t ∷ []), not-true (member x l) (d .0), apart) in
-    and out (distinct-append l t (d .1) (n .1))
+distinct-snoc [] x = refl
+distinct-snoc (y ∷ a) x = rw (member-append y a (x ∷ []), distinct-snoc a x, eqb-sym y x) (go (member y a) (eqb x y) (distinct a) (member x a))
+  where
+    go : (m e d n : Bool) → (not (m || (e || false)) && (d && not n)) ≡ ((not m && d) && not (e || n))
+    go true e d n = refl
+    go false true true n = refl
+    go false true false n = refl
+    go false false d n = refl
+
+pub distinct-keep : (f : ℕ → Bool) (l : List ℕ) → distinct l ≡ true → distinct (keep f l) ≡ true
+unfolding keep distinct
+distinct-keep f [] e = refl
+distinct-keep f (x ∷ l) e = go (f x) (both (not (member x l)) (distinct l) e) (λ a. distinct-keep f l a)
+  where
+    go : (y : Bool) → (not (member x l) ≡ true) × (distinct l ≡ true) → (distinct l ≡ true → distinct (keep f l) ≡ true)
+        → distinct (consIf y x (keep f l)) ≡ true
+    go true p ih = let out : not (member x (keep f l)) ≡ true = rw (member-keep f l x, not-true (member x l) (p .0)) in and out (ih (p .1))
+    go false p ih = ih (p .1)
 
 -- ---- a list without repeats of numbers below n has at most n of them
 
@@ -166,12 +226,35 @@ pigeonhole (suc n) l d h =
         let b : t ≢ n = eqb-false t n (not-true (eqb t n) (p .1)) in
         omega arith
 
--- keep never lengthens a list
-pub length-keep : {A : Type 0} (f : A → Bool) (l : List A) → length (keep f l) ≤ length l
-unfolding keep
-length-keep f [] = omega arith
-length-keep f (x ∷ l) = go (f x) (length-keep f l)
+-- ---- the maximum of f over a list
+
+pub maximum-high : (f : ℕ → ℕ) (l : List ℕ) (u : ℕ) → member u l ≡ true → f u ≤ maximum (map f l)
+unfolding any maximum
+maximum-high f [] u m = clash m refl
+maximum-high f (x ∷ l) u m = go (eqb u x) refl m (λ a. maximum-high f l u a)
   where
-    go : (y : Bool) → length (keep f l) ≤ length l → length (consIf y x (keep f l)) ≤ suc (length l)
-    go true h = omega arith
-    go false h = omega arith
+    go : (z : Bool) → eqb u x ≡ z → (z || member u l) ≡ true → (member u l ≡ true → f u ≤ maximum (map f l)) → f u ≤ max (f x) (maximum (map f l))
+    go true q k ih = let w : u ≡ x = eqb-true u x q in rw w (omega arith)
+    go false q k ih = omega (arith, ih k)
+
+-- a member has it, if there is any
+pub maximum-found : (f : ℕ → ℕ) (l : List ℕ) → any (λ x. true) l ≡ true → (u : ℕ) × (member u l ≡ true) × (f u ≡ maximum (map f l))
+unfolding any maximum
+maximum-found f [] e = clash e refl
+maximum-found f (x ∷ []) e = (x, rw (eq-eqb x x refl), omega arith)
+maximum-found f (x ∷ y ∷ l) e = go (decLe (maximum (map f (y ∷ l))) (f x)) (maximum-found f (y ∷ l) refl)
+  where
+    go : Dec (maximum (map f (y ∷ l)) ≤ f x) → (u : ℕ) × (member u (y ∷ l) ≡ true) × (f u ≡ maximum (map f (y ∷ l)))
+        → (u : ℕ) × (member u (x ∷ y ∷ l) ≡ true) × (f u ≡ max (f x) (maximum (map f (y ∷ l))))
+    go (yes h) r = (x, rw (eq-eqb x x refl), omega arith)
+    go (no h) r = let (u, m, e) = r in (u, rw m (or-true (eqb u x)), omega arith)
+
+-- ---- zeros
+
+pub all-zeros : (l : List ℕ) → all (eqb 0) l ≡ true → l ≡ replicate (length l) 0
+unfolding all
+all-zeros [] e = refl
+all-zeros (x ∷ l) e =
+    let (a, b) = both _ _ e in
+    let z : 0 ≡ x = eqb-true _ _ a in
+    rw (← z, ← all-zeros l b)
