@@ -45,8 +45,8 @@ told-record b t r =
     (λ e. let k : kindOf b ≡ Event.setPriority = eqb-true _ _ e in ne-eqb (kindOf b) Event.end (omega arith))
   where
     go : (z₀ z₁ z₂ z₃ z₄ z₅ : Bool) → (z₄ ≡ true → z₅ ≡ false)
-        → knownOf (cond z₀ (cond z₁ (created (partitionOf b) (priorityOf b) (maskOf b)) (cond z₂ (withReady r true) (cond z₃ (withReady r false)
-        (cond z₄ (withPriority r (priorityOf b)) (cond z₅ absent r))))) r)
+        → knownOf (cond z₀ (cond z₁ (created (partitionOf b) (priorityOf b) (maskOf b)) (cond z₂ (withReady r true)
+        (cond z₃ (withReady r false) (cond z₄ (withPriority r (priorityOf b)) (cond z₅ absent r))))) r)
         ≡ cond z₀ (cond z₁ (record { ready = false; partition = partitionOf b; mask = maskOf b })
         (cond z₂ (record { ready = true; partition = r .partition; mask = r .mask })
         (cond z₃ (record { ready = false; partition = r .partition; mask = r .mask })

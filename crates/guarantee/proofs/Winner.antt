@@ -17,7 +17,8 @@ module _ (s : State) where
   has-mode : (p : ℕ) → p < s .settings .count → competing s p ≡ true → hasBudget s p ≡ true → eqb (mode s) Policy.atLimit ≡ false
   unfolding mode
   has-mode p b c h =
-      rw (below-any (competing s) (s .settings .count) p b c, below-any (λ q. competing s q && hasBudget s q) (s .settings .count) p b (and c h)) (go (any _ _))
+      rw (below-any (competing s) (s .settings .count) p b c, below-any (λ q. competing s q && hasBudget s q) (s .settings .count) p b (and c h))
+      (go (any _ _))
     where
       go : (z : Bool) → eqb (cond z 1 2) 3 ≡ false
       go true = refl

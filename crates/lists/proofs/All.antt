@@ -30,7 +30,8 @@ module _ (f : ℕ → Bool) where
   pub all-below : (n : ℕ) → all f (below n) ≡ true → (i : ℕ) → i < n → f i ≡ true
   unfolding all below
   all-below zero e i h = absurd (not-suc-le-zero h)
-  all-below (suc n) e i h = go (decLt i n) (both (all f (below n)) (f n && true) (sym (all-append f (below n) (n ∷ [])) ∙ e)) (λ a. all-below n a i)
+  all-below (suc n) e i h =
+      go (decLt i n) (both (all f (below n)) (f n && true) (sym (all-append f (below n) (n ∷ [])) ∙ e)) (λ a. all-below n a i)
     where
       go : Dec (i < n) → (all f (below n) ≡ true) × ((f n && true) ≡ true) → (all f (below n) ≡ true → i < n → f i ≡ true) → f i ≡ true
       go (yes b) p ih = ih (p .0) b
@@ -53,8 +54,8 @@ module _ (f : ℕ → Bool) where
   any-below zero e = clash e refl
   any-below (suc n) e = go (any f (below n)) refl (λ a. any-below n a) (sym (any-append f (below n) (n ∷ [])) ∙ e) (f n) refl
     where
-      go : (z : Bool) → any f (below n) ≡ z → (any f (below n) ≡ true → (i : ℕ) × (i < n) × (f i ≡ true)) → (any f (below n) || (f n || false)) ≡ true
-          → (y : Bool) → f n ≡ y → (i : ℕ) × (i < suc n) × (f i ≡ true)
+      go : (z : Bool) → any f (below n) ≡ z → (any f (below n) ≡ true → (i : ℕ) × (i < n) × (f i ≡ true))
+          → (any f (below n) || (f n || false)) ≡ true → (y : Bool) → f n ≡ y → (i : ℕ) × (i < suc n) × (f i ≡ true)
       go true q ih r y s = let (i, b, t) = ih q in (i, omega arith, t)
       go false q ih r true s = (n, omega arith, s)
       go false q ih r false s = clash r (rw (q, s))
@@ -62,7 +63,8 @@ module _ (f : ℕ → Bool) where
   pub none-below : (n : ℕ) → any f (below n) ≡ false → (i : ℕ) → i < n → f i ≡ false
   unfolding any below
   none-below zero e i h = absurd (not-suc-le-zero h)
-  none-below (suc n) e i h = go (decLt i n) (neither (any f (below n)) (f n || false) (sym (any-append f (below n) (n ∷ [])) ∙ e)) (λ a. none-below n a i)
+  none-below (suc n) e i h =
+      go (decLt i n) (neither (any f (below n)) (f n || false) (sym (any-append f (below n) (n ∷ [])) ∙ e)) (λ a. none-below n a i)
     where
       go : Dec (i < n) → (any f (below n) ≡ false) × ((f n || false) ≡ false) → (any f (below n) ≡ false → i < n → f i ≡ false) → f i ≡ false
       go (yes b) p ih = ih (p .0) b
@@ -89,7 +91,8 @@ module _ (f : ℕ → Bool) where
   all-member [] e t m = clash m refl
   all-member (x ∷ l) e t m = go (eqb t x) refl m (both (f x) (all f l) e) (λ a. all-member l a t)
     where
-      go : (z : Bool) → eqb t x ≡ z → (z || member t l) ≡ true → (f x ≡ true) × (all f l ≡ true) → (all f l ≡ true → member t l ≡ true → f t ≡ true) → f t ≡ true
+      go : (z : Bool) → eqb t x ≡ z → (z || member t l) ≡ true → (f x ≡ true) × (all f l ≡ true)
+          → (all f l ≡ true → member t l ≡ true → f t ≡ true) → f t ≡ true
       go true q r p ih = let w : t ≡ x = eqb-true t x q in rw w (p .0)
       go false q r p ih = ih (p .1) r
 
@@ -167,7 +170,8 @@ eqb-sym a b = same (eqb a b) (eqb b a) (λ e. eq-eqb b a (sym (eqb-true a b e)))
 pub distinct-snoc : (a : List ℕ) (x : ℕ) → distinct (a ++ (x ∷ [])) ≡ (distinct a && not (member x a))
 unfolding distinct any
 distinct-snoc [] x = refl
-distinct-snoc (y ∷ a) x = rw (member-append y a (x ∷ []), distinct-snoc a x, eqb-sym y x) (go (member y a) (eqb x y) (distinct a) (member x a))
+distinct-snoc (y ∷ a) x =
+    rw (member-append y a (x ∷ []), distinct-snoc a x, eqb-sym y x) (go (member y a) (eqb x y) (distinct a) (member x a))
   where
     go : (m e d n : Bool) → (not (m || (e || false)) && (d && not n)) ≡ ((not m && d) && not (e || n))
     go true e d n = refl
@@ -205,8 +209,8 @@ unfolding keep distinct
 length-without [] t e = omega arith
 length-without (x ∷ l) t e = go (eqb x t) refl (both (not (member x l)) (distinct l) e) (λ a. length-without l t a)
   where
-    go : (z : Bool) → eqb x t ≡ z → (not (member x l) ≡ true) × (distinct l ≡ true) → (distinct l ≡ true → length l ≤ suc (length (without t l)))
-        → suc (length l) ≤ suc (length (consIf (not z) x (without t l)))
+    go : (z : Bool) → eqb x t ≡ z → (not (member x l) ≡ true) × (distinct l ≡ true)
+        → (distinct l ≡ true → length l ≤ suc (length (without t l))) → suc (length l) ≤ suc (length (consIf (not z) x (without t l)))
     go true q p ih =
         let w : x ≡ t = eqb-true x t q in
         let out : member t l ≡ false = rw (← w) (not-true (member x l) (p .0)) in
@@ -218,7 +222,12 @@ unfolding any
 pigeonhole zero [] d h = omega arith
 pigeonhole zero (x ∷ l) d h = absurd (not-suc-le-zero (h x (rw (eq-eqb x x refl))))
 pigeonhole (suc n) l d h =
-    omega (arith, length-without l n d, pigeonhole n (without n l) (distinct-keep (λ u. not (eqb u n)) l d) (λ t m. small t (both (member t l) (not (eqb t n)) (sym (member-without l n t) ∙ m))))
+    omega (
+      arith,
+      length-without l n d,
+      pigeonhole n (without n l) (distinct-keep (λ u. not (eqb u n)) l d)
+          (λ t m. small t (both (member t l) (not (eqb t n)) (sym (member-without l n t) ∙ m))),
+    )
   where
     small : (t : ℕ) → (member t l ≡ true) × (not (eqb t n) ≡ true) → t < n
     small t p =
@@ -233,7 +242,8 @@ unfolding any maximum
 maximum-high f [] u m = clash m refl
 maximum-high f (x ∷ l) u m = go (eqb u x) refl m (λ a. maximum-high f l u a)
   where
-    go : (z : Bool) → eqb u x ≡ z → (z || member u l) ≡ true → (member u l ≡ true → f u ≤ maximum (map f l)) → f u ≤ max (f x) (maximum (map f l))
+    go : (z : Bool) → eqb u x ≡ z → (z || member u l) ≡ true → (member u l ≡ true → f u ≤ maximum (map f l))
+        → f u ≤ max (f x) (maximum (map f l))
     go true q k ih = let w : u ≡ x = eqb-true u x q in rw w (omega arith)
     go false q k ih = omega (arith, ih k)
 

@@ -92,7 +92,8 @@ filled-at (y ∷ ys) n zero = refl
 filled-at (y ∷ ys) n (suc i) = filled-at ys n i
 
 -- a list of m numbers, all zero after the first n
-pub zeros-after : (l : List ℕ) (n m : ℕ) → length l ≡ m → n ≤ m → all (eqb 0) (drop n l) ≡ true → l ≡ take n l ++ replicate (m - length (take n l)) 0
+pub zeros-after : (l : List ℕ) (n m : ℕ) → length l ≡ m → n ≤ m → all (eqb 0) (drop n l) ≡ true
+    → l ≡ take n l ++ replicate (m - length (take n l)) 0
 zeros-after l n m full few rest =
     let c : length (take n l) ≡ n = length-take-le n l (omega arith) in
     let d : length (drop n l) ≡ m - length (take n l) = rw (length-drop, c) (omega arith) in
