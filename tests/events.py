@@ -1,0 +1,51 @@
+#!/usr/bin/env python3
+"""tools/events: any stream of records comes back from its text byte for byte, and a line that makes no sense is refused with its number."""
+import random
+import subprocess
+import sys
+from pathlib import Path
+
+ROOT = Path(__file__).resolve().parent.parent
+TOOL = ROOT / "tools/events"
+BAD = [
+    ("x tick", "line 1: stamp is a whole number"),
+    ("5", "line 1: a stamp alone"),
+    ("5 tick 3", "line 1: write it as: STAMP tick"),
+    ("\n\n5 create 1", "line 3: write it as: STAMP create THREAD partition PARTITION priority PRIORITY mask MASK"),
+    ("4294967296 tick", "line 1: stamp is at most 4294967295"),
+    ("1 ready 256", "line 1: thread is at most 255"),
+    ("1 ready -1", "line 1: thread is a whole number"),
+    ("1 ready 0,5", "line 1: thread is a whole number"),
+    ("1 fly", "line 1: 'fly' is no event"),
+    ("1 priority 3 be 4", "line 1: 'to' is wanted"),
+    ("raw zz", "line 1: raw takes bytes in hexadecimal"),
+    ("raw 00000000000000000000000000", "line 1: raw takes 1 to 12 bytes"),
+    ("raw 01\n5 tick", "line 2: only the last record may be cut"),
+]
+
+
+def tool(word, data):
+    return subprocess.run([TOOL, word], input=data, stdout=subprocess.PIPE, stderr=subprocess.PIPE, timeout=20)
+
+
+def main():
+    wrong = 0
+    draw = random.Random(1)
+    streams = [p.read_bytes() for p in sorted(ROOT.glob("tests/vectors/*/events.bin"))]
+    streams += [bytes(draw.choice((0, 0, 1, 2, 3, 4, 5, 6, 7, 8, 255)) for _ in range(draw.randrange(90))) for _ in range(60)]
+    for stream in streams:
+        text = tool("decode", stream).stdout
+        if tool("encode", text).stdout != stream:
+            wrong += 1
+            print(f"events: {stream.hex()} came back otherwise")
+    for text, reason in BAD:
+        done = tool("encode", text.encode())
+        if done.returncode == 0 or done.stdout or reason not in done.stderr.decode():
+            wrong += 1
+            print(f"events: {text!r}: {done.stderr.decode()!r} does not say {reason!r}")
+    print(f"events: {len(streams)} streams there and back, {len(BAD)} bad lines refused, {wrong} wrong")
+    sys.exit(wrong != 0)
+
+
+if __name__ == "__main__":
+    main()
