@@ -1,6 +1,6 @@
 -- What the decision is, in a state that is sound but for its running thread.
 use mathlib.Core.Logic.{_≢_}
-use mathlib.Core.Path.{_≡_, refl, ap, _∙_}
+use mathlib.Core.Path.{_≡_, refl, ap}
 use Prim.Native.Nat.{ℕ, _<_}
 use mathlib.Core.Bool.{Bool, true, false, cond}
 use mathlib.Core.Option.{Option, none, some}
@@ -15,6 +15,7 @@ use Rattle.model.specs.Policy.{Decided, competing, mode, winner, chosen, decide
 use Rattle.model.specs.Choices.{Won}
 use Rattle.model.specs.declared.State.{State}
 use Rattle.model.specs.Facts.{Settled, Runs}
+use Rattle.model.proofs.Bounds.{queued-inside}
 use Rattle.model.proofs.Winner.{winner-won, winner-none}
 use Rattle.guarantee.specs.Promises.{Allowed, NoneAllowed, IdleExactly, idleDecision, Busy}
 use Rattle.guarantee.proofs.Chosen.{competes, chosen-is, chosen-allowed}
@@ -22,10 +23,7 @@ use Rattle.guarantee.proofs.Chosen.{competes, chosen-is, chosen-allowed
 module _ (s : State) (h : List ℕ) (k : Settled s h) where
   -- an allowed thread's partition competes
   pub allowed-competes : (t : ℕ) → Allowed s t → (thread s t .partition < s .settings .count) × (competing s (thread s t .partition) ≡ true)
-  allowed-competes t a =
-      let b : t < 64 = k .queue .inside t (a .queued) in
-      let r : thread s t .ready ≡ true = k .queue .ready t b ∙ a .queued in
-      (k .proper t b .partition (k .queue .exists t b r), competes s (thread s t .partition) t a refl)
+  allowed-competes t a = (queued-inside s h k t (a .queued) .1, competes s (thread s t .partition) t a refl)
 
   -- and a partition that competes has one
   pub competes-allowed : (p : ℕ) → competing s p ≡ true → Allowed s (chosen s p)

@@ -35,15 +35,16 @@ module _ (c : Settings) (u : List Cycles) (slot since : ℕ) (h : List ℕ) (lim
       let most : W c * (2 * C c) ≤ 400 * (2 * C c) = mul-le-mul-right (2 * C c) (lim .window-high) in
       rw (b .totals p a) (omega (arith, rw len at high, most, lim .tick-high))
 
--- the running thread's number is one of the 64, and its partition one of the sheet's
-pub running-inside : (s : State) (h : List ℕ) → Sound s h → s .running ≢ idle
-    → (s .running < 64) × (thread s (s .running) .partition < s .settings .count)
-running-inside s h g on =
-    let k : Settled s h = g .settled in
-    let t : ℕ = s .running in
-    let m : member t (queueOf s) ≡ true = g .runs .queued on in
+-- a queued thread's number is one of the 64, and its partition one of the sheet's; so it is with the running one
+pub queued-inside : (s : State) (h : List ℕ) → Settled s h → (t : ℕ) → member t (queueOf s) ≡ true
+    → (t < 64) × (thread s t .partition < s .settings .count)
+queued-inside s h k t m =
     let b : t < 64 = k .queue .inside t m in
     (b, k .proper t b .partition (k .queue .exists t b (k .queue .ready t b ∙ m)))
+
+pub running-inside : (s : State) (h : List ℕ) → Sound s h → s .running ≢ idle
+    → (s .running < 64) × (thread s (s .running) .partition < s .settings .count)
+running-inside s h g on = queued-inside s h (g .settled) (s .running) (g .runs .queued on)
 
 -- clearing a slot keeps the history's length
 pub clear-length : (w k n : ℕ) (h : List ℕ) → length (clearHistory w k n h) ≡ length h
