@@ -1,0 +1,784 @@
+//! The worked run, both sides of each line, the slips, and the comparison
+//! with the plain model.
+
+use crate::accounts::Accounts;
+use crate::plain::Plain;
+use crate::streams::{answer, stream, Reach};
+use crate::{read_sheet, write_sheet, Balance, Cycles, Line, Percent, Scheduler, Settings, Ticks};
+
+// Helpers -------------------------------------------------------------------
+
+fn settings(w: u32, c: u32, policy: u32, core: u32, shares: &[u32]) -> Settings {
+    let mut all = [Percent(0); 16];
+    for (place, &share) in all.iter_mut().zip(shares) {
+        *place = Percent(share);
+    }
+    let (window, tick, partitions) = (Ticks(w), Cycles(c), shares.len());
+    Settings {
+        window,
+        tick,
+        policy,
+        core,
+        partitions,
+        shares: all,
+    }
+}
+
+fn sheet(w: u32, c: u32, policy: u32, core: u32, shares: &[u32]) -> Vec<u8> {
+    let mut text = format!("W 00 {w:06}\nC 00 {c:06}\nP 00 {policy:06}\nM 00 {core:06}\n");
+    for (p, share) in shares.iter().enumerate() {
+        text += &format!("S {p:02} {share:06}\n");
+    }
+    text.into_bytes()
+}
+
+fn start(w: u32, c: u32, policy: u32, core: u32, shares: &[u32]) -> Scheduler {
+    Scheduler::start(&sheet(w, c, policy, core, shares)).unwrap()
+}
+
+fn record(kind: u8, t: u8, p: u8, priority: u8, stamp: u32, mask: u8) -> [u8; 12] {
+    let s = stamp.to_le_bytes();
+    [kind, t, p, priority, s[0], s[1], s[2], s[3], mask, 0, 0, 0]
+}
+
+fn tick(stamp: u32) -> [u8; 12] {
+    record(1, 0, 0, 0, stamp, 0)
+}
+fn create(t: u8, p: u8, priority: u8, mask: u8, stamp: u32) -> [u8; 12] {
+    record(2, t, p, priority, stamp, mask)
+}
+fn ready(t: u8, stamp: u32) -> [u8; 12] {
+    record(3, t, 0, 0, stamp, 0)
+}
+fn block(t: u8, stamp: u32) -> [u8; 12] {
+    record(4, t, 0, 0, stamp, 0)
+}
+fn set(t: u8, priority: u8, stamp: u32) -> [u8; 12] {
+    record(5, t, 0, priority, stamp, 0)
+}
+fn end(t: u8, stamp: u32) -> [u8; 12] {
+    record(6, t, 0, 0, stamp, 0)
+}
+fn resume(stamp: u32) -> [u8; 12] {
+    record(7, 0, 0, 0, stamp, 0)
+}
+
+/// Creates a thread that every core may run and makes it ready.
+fn join(s: &mut Scheduler, t: u8, p: u8, priority: u8) -> (u8, u8, u8) {
+    let stamp = s.stamp();
+    took(s, create(t, p, priority, 255, stamp));
+    took(s, ready(t, stamp))
+}
+
+/// Mode, partition and thread of an event that has to be accepted.
+fn took(s: &mut Scheduler, event: [u8; 12]) -> (u8, u8, u8) {
+    let line = s.event(&event);
+    assert_eq!(line.refusal, 0, "{event:?}");
+    (line.mode, line.partition, line.thread)
+}
+
+/// The number of an event that has to be refused and to change nothing.
+fn refused(s: &mut Scheduler, event: &[u8]) -> u8 {
+    let state = |s: &Scheduler| {
+        let accounts: Vec<_> = (0..16).map(|p| s.account(p)).collect();
+        (
+            s.stamp(),
+            s.since_tick(),
+            s.existing(),
+            s.ready(),
+            s.charged(),
+            accounts,
+            s.decision(),
+        )
+    };
+    let before = state(s);
+    let line = s.event(event);
+    assert_ne!(line.refusal, 0, "{event:?}");
+    assert_eq!(line, Line::refused(line.refusal));
+    assert_eq!(state(s), before);
+    line.refusal
+}
+
+fn remaining(s: &Scheduler, p: usize) -> i64 {
+    s.remaining(p).unwrap().0
+}
+
+// The worked run ------------------------------------------------------------
+
+#[test]
+fn worked_run() {
+    let mut s = start(4, 1000, 0, 0, &[50, 50]);
+    let events = [
+        create(0, 0, 10, 1, 0),
+        create(1, 1, 20, 1, 0),
+        ready(0, 0),
+        ready(1, 0),
+        tick(1000),
+        tick(2000),
+        tick(3000),
+        tick(4000),
+        ready(1, 4500),
+        tick(7000),
+    ]
+    .concat();
+    let mut lines = [0; 120];
+    assert_eq!(s.run(&events, &mut lines), 120);
+    let wanted = "\
+00 0 00 255
+00 0 00 255
+00 1 00 000
+00 2 01 001
+00 2 01 001
+00 2 00 000
+00 2 00 000
+00 2 01 001
+13 0 00 000
+10 0 00 000
+";
+    assert_eq!(std::str::from_utf8(&lines).unwrap(), wanted);
+}
+
+// The sheet -----------------------------------------------------------------
+
+#[test]
+fn sheet_right() {
+    let read = read_sheet(&sheet(2, 100, 1, 7, &[0, 100])).unwrap();
+    assert_eq!(read, settings(2, 100, 1, 7, &[0, 100]));
+    let most = [7, 7, 7, 7, 7, 7, 7, 7, 7, 7, 5, 5, 5, 5, 5, 5];
+    assert!(read_sheet(&sheet(400, 999_900, 0, 0, &most)).is_ok());
+}
+
+#[test]
+fn sheet_length() {
+    let right = sheet(4, 1000, 0, 0, &[50, 50]);
+    assert_eq!(read_sheet(b""), Err(1));
+    for length in 0..right.len() {
+        let whole = length % 12 == 0 && length >= 60;
+        // Five whole records are a sheet whose shares come to 50.
+        assert_eq!(read_sheet(&right[..length]), Err(if whole { 6 } else { 1 }));
+    }
+    let mut many = right.clone();
+    for p in 2..17 {
+        many.extend_from_slice(format!("S {p:02} 000000\n").as_bytes());
+        assert_eq!(read_sheet(&many).err(), (p == 16).then_some(1));
+    }
+    let mut long = right.clone();
+    long.push(b'\n');
+    assert_eq!(read_sheet(&long), Err(1));
+}
+
+#[test]
+fn sheet_form() {
+    let right = sheet(4, 1000, 0, 0, &[50, 50]);
+    assert!(read_sheet(&right).is_ok());
+    // Any other byte in any place is refused, and 2 comes first wherever
+    // the new byte isn't a digit of the value.
+    for place in 0..right.len() {
+        for byte in 0..=255 {
+            if byte == right[place] {
+                continue;
+            }
+            let mut sheet = right.clone();
+            sheet[place] = byte;
+            let value = (5..11).contains(&(place % 12)) && byte.is_ascii_digit();
+            match read_sheet(&sheet) {
+                Err(2) => assert!(!value),
+                _ => assert!(value),
+            }
+        }
+    }
+    let half = [&right[..60], b"S 01 0000,5\n"].concat();
+    assert_eq!(read_sheet(&half), Err(2));
+    let point = [&right[..60], b"S 01 0050.0\n"].concat();
+    assert_eq!(read_sheet(&point[..72]), Err(2));
+    let twice = [&right[..60], b"S 00 000050\n"].concat();
+    assert_eq!(read_sheet(&twice), Err(2));
+    // Form in the last record before a limit in the first.
+    let both = [&sheet(1, 150, 2, 8, &[101])[..], b"S 02 000000\n"].concat();
+    assert_eq!(read_sheet(&both), Err(2));
+}
+
+#[test]
+fn sheet_limits() {
+    let read = |w, c, p, m, shares: &[u32]| read_sheet(&sheet(w, c, p, m, shares)).err();
+    for (w, wanted) in [
+        (0, Some(3)),
+        (1, Some(3)),
+        (2, None),
+        (400, None),
+        (401, Some(3)),
+    ] {
+        assert_eq!(read(w, 1000, 0, 0, &[100]), wanted);
+    }
+    for (c, wanted) in [
+        (0, Some(4)),
+        (50, Some(4)),
+        (99, Some(4)),
+        (100, None),
+        (101, Some(4)),
+        (150, Some(4)),
+        (999_900, None),
+        (999_999, Some(4)),
+    ] {
+        assert_eq!(read(4, c, 0, 0, &[100]), wanted);
+    }
+    assert_eq!(read(4, 1000, 1, 7, &[100]), None);
+    assert_eq!(read(4, 1000, 2, 0, &[100]), Some(5));
+    assert_eq!(read(4, 1000, 0, 8, &[100]), Some(5));
+    assert_eq!(read(4, 1000, 0, 0, &[99]), Some(6));
+    assert_eq!(read(4, 1000, 0, 0, &[101]), Some(6));
+    assert_eq!(read(4, 1000, 0, 0, &[100, 1]), Some(6));
+    assert_eq!(read(4, 1000, 0, 0, &[0, 100, 0]), None);
+    assert_eq!(read(4, 1000, 0, 0, &[0]), Some(6));
+    assert_eq!(read(4, 1000, 0, 0, &[999_999, 999_999]), Some(6));
+    // In their order.
+    assert_eq!(read(1, 150, 2, 8, &[101]), Some(3));
+    assert_eq!(read(2, 150, 2, 8, &[101]), Some(4));
+    assert_eq!(read(2, 100, 2, 7, &[101]), Some(5));
+    assert_eq!(read(2, 100, 1, 7, &[101]), Some(6));
+}
+
+#[test]
+fn sheet_written() {
+    let good = settings(400, 999_900, 1, 7, &[30, 0, 70]);
+    let text = sheet(400, 999_900, 1, 7, &[30, 0, 70]);
+    let mut out = [b'x'; 100];
+    assert_eq!(write_sheet(&good, &mut out), Ok(84));
+    assert_eq!(&out[..84], &text[..]);
+    assert_eq!(out[84..], [b'x'; 16]);
+    assert_eq!(read_sheet(&out[..84]), Ok(good));
+    let mut exact = [0; 84];
+    assert_eq!(write_sheet(&good, &mut exact), Ok(84));
+
+    let untouched = |settings: &Settings, length: usize| {
+        let mut out = [b'x'; 300];
+        let answer = write_sheet(settings, &mut out[..length]);
+        assert!(out.iter().all(|&byte| byte == b'x'));
+        answer
+    };
+    assert_eq!(untouched(&good, 83), Err(7));
+    assert_eq!(untouched(&good, 0), Err(7));
+    let mut bad = good;
+    bad.shares[1] = Percent(u32::MAX);
+    assert_eq!(untouched(&bad, 0), Err(6));
+    bad.core = 8;
+    assert_eq!(untouched(&bad, 0), Err(5));
+    bad.tick = Cycles(1_000_000);
+    assert_eq!(untouched(&bad, 0), Err(4));
+    bad.window = Ticks(401);
+    assert_eq!(untouched(&bad, 0), Err(3));
+    bad.partitions = 0;
+    assert_eq!(untouched(&bad, 0), Err(1));
+    bad.partitions = 17;
+    assert_eq!(untouched(&bad, 300), Err(1));
+    bad.partitions = usize::MAX;
+    assert_eq!(untouched(&bad, 300), Err(1));
+}
+
+#[test]
+fn start_refuses_like_the_sheet() {
+    assert_eq!(Scheduler::start(b"").err(), Some(1));
+    assert_eq!(
+        Scheduler::start(&sheet(1, 1000, 0, 0, &[100])).err(),
+        Some(3)
+    );
+}
+
+// Both sides of each line ---------------------------------------------------
+
+#[test]
+fn quarter_of_a_tick() {
+    // Budgets 2000 and 2000. Partition 1 runs by priority until too little
+    // remains.
+    for (used, winner) in [(1750, 1), (1751, 0)] {
+        let mut s = start(4, 1000, 0, 0, &[50, 50]);
+        join(&mut s, 0, 0, 10);
+        join(&mut s, 1, 1, 20);
+        took(&mut s, tick(1000));
+        assert_eq!(took(&mut s, set(1, 20, used)), (2, winner, winner));
+        assert_eq!(remaining(&s, 1), 2000 - i64::from(used));
+    }
+}
+
+#[test]
+fn fractions() {
+    // Used 40 of 80 against 5 of 20 and against 10 of 20.
+    let mut accounts = Accounts::new(&settings(2, 100, 0, 0, &[40, 10, 50]));
+    accounts.charge(0, Cycles(40));
+    accounts.charge(1, Cycles(5));
+    assert!(accounts.better(1, 0) && !accounts.better(0, 1));
+    accounts.charge(1, Cycles(5));
+    assert!(!accounts.better(1, 0) && !accounts.better(0, 1));
+    // The same seen from outside, forty times as large, so that both have
+    // budget: 1600 of 3200 against 200, 399, 400 and 401 of 800.
+    for (second, winner) in [(200, 1), (399, 1), (400, 0), (401, 0)] {
+        let mut s = start(4, 1000, 0, 0, &[80, 20]);
+        took(&mut s, create(0, 0, 10, 1, 0));
+        took(&mut s, create(1, 1, 10, 1, 0));
+        took(&mut s, ready(0, 0));
+        took(&mut s, tick(1000));
+        took(&mut s, block(0, 1600));
+        took(&mut s, ready(1, 1600));
+        took(&mut s, tick(1600));
+        took(&mut s, block(1, 1600 + second));
+        took(&mut s, ready(0, 1600 + second));
+        // Both have budget and the same priority.
+        assert_eq!(took(&mut s, ready(1, 1600 + second)), (2, winner, winner));
+        assert_eq!(remaining(&s, 0), 1600);
+        assert_eq!(remaining(&s, 1), 800 - i64::from(second));
+    }
+}
+
+#[test]
+fn no_budget_is_worst() {
+    // Budget 0, used 0, against budget 100, used 200, in free time by ratio
+    // (partition 2 sleeps).
+    let mut s = start(2, 100, 1, 0, &[0, 50, 50]);
+    join(&mut s, 1, 1, 1);
+    took(&mut s, set(1, 1, 200));
+    assert_eq!((remaining(&s, 0), remaining(&s, 1)), (0, -100));
+    assert_eq!(join(&mut s, 0, 0, 255), (1, 1, 1));
+    // At limit: budget 0, used 0, against budget 200, used 400.
+    let mut s = start(2, 100, 0, 0, &[0, 100]);
+    join(&mut s, 1, 1, 1);
+    took(&mut s, tick(200));
+    assert_eq!(took(&mut s, set(1, 1, 400)), (3, 1, 1));
+    assert_eq!(remaining(&s, 1), -200);
+    assert_eq!(join(&mut s, 0, 0, 255), (3, 1, 1));
+    // Two such are equal, whatever they used: the lower number runs.
+    let mut s = start(2, 100, 0, 0, &[0, 0, 100]);
+    join(&mut s, 1, 1, 7);
+    assert_eq!(took(&mut s, tick(150)), (1, 1, 1));
+    assert_eq!(join(&mut s, 0, 0, 7), (1, 0, 0));
+    assert_eq!(took(&mut s, set(0, 7, 250)), (1, 0, 0));
+    assert_eq!(took(&mut s, set(0, 6, 250)), (1, 1, 1));
+}
+
+#[test]
+fn stamps_wrap() {
+    let mut s = start(4, 1000, 0, 0, &[100]);
+    join(&mut s, 0, 0, 1);
+    took(&mut s, resume(4_294_967_290));
+    took(&mut s, set(0, 1, 4));
+    assert_eq!(s.since_tick(), Cycles(10));
+    assert_eq!(remaining(&s, 0), 4000 - 10);
+}
+
+#[test]
+fn too_long() {
+    let mut s = start(4, 1000, 0, 0, &[100]);
+    assert_eq!(refused(&mut s, &tick(2001)), 10);
+    assert_eq!(refused(&mut s, &tick(u32::MAX)), 10);
+    took(&mut s, create(0, 0, 0, 1, 1500));
+    assert_eq!(refused(&mut s, &ready(0, 2001)), 10);
+    assert_eq!(refused(&mut s, &ready(0, 1499)), 10);
+    took(&mut s, ready(0, 2000));
+    assert_eq!(s.since_tick(), Cycles(2000));
+    assert_eq!(refused(&mut s, &tick(2001)), 10);
+    took(&mut s, tick(2000));
+    took(&mut s, tick(4000));
+    assert_eq!(remaining(&s, 0), 4000 - 2000);
+    // A refused event doesn't move the stamp.
+    assert_eq!(refused(&mut s, &tick(6001)), 10);
+    took(&mut s, tick(6000));
+    // A resume at any stamp is fine.
+    took(&mut s, resume(123));
+    assert_eq!((s.stamp(), s.since_tick()), (123, Cycles(0)));
+    took(&mut s, resume(122));
+}
+
+#[test]
+fn zero_share_in_free_time() {
+    let mut s = start(4, 1000, 0, 0, &[100, 0]);
+    assert_eq!(join(&mut s, 5, 1, 9), (1, 1, 5));
+    took(&mut s, set(5, 9, 5));
+    assert_eq!(s.remaining(1), Ok(Balance(-5)));
+    assert_eq!(s.remaining(0), Ok(Balance(4000)));
+    assert_eq!(s.remaining(2), Err(12));
+}
+
+#[test]
+fn another_core() {
+    let mut s = start(4, 1000, 0, 0, &[100]);
+    took(&mut s, create(0, 0, 10, 2, 0));
+    assert_eq!(took(&mut s, ready(0, 0)), (0, 0, 255));
+    // Idle time goes to no account.
+    assert_eq!(took(&mut s, tick(1000)), (0, 0, 255));
+    assert_eq!(remaining(&s, 0), 4000);
+    let mut s = start(4, 1000, 0, 1, &[100]);
+    took(&mut s, create(0, 0, 10, 2, 0));
+    assert_eq!(took(&mut s, ready(0, 0)), (2, 0, 0));
+}
+
+#[test]
+fn starved_partition_gets_its_share() {
+    // W 100, C 1000, four partitions, share 10: at least 7,750 cycles in 200
+    // ticks, whatever the others do. Here they wake and sleep at random, and
+    // stand above it in priority.
+    for seed in 0..20_u64 {
+        let mut s = start(100, 1000, (seed % 2) as u32, 0, &[30, 30, 10, 30]);
+        for t in 0..4 {
+            took(&mut s, create(t, t, if t == 2 { 1 } else { 50 + t }, 1, 0));
+        }
+        took(&mut s, ready(2, 0));
+        let mut x = seed.wrapping_mul(0x9E37_79B9_7F4A_7C15) | 1;
+        let mut next = move |n: u32| {
+            x ^= x << 13;
+            x ^= x >> 7;
+            x ^= x << 17;
+            (x >> 33) as u32 % n
+        };
+        let mut charged = [0; 300];
+        let (mut now, mut runs) = (0_u32, 255);
+        for period in charged.iter_mut() {
+            let until = now + 1000;
+            for _ in 0..next(4) {
+                let stamp = now + next(until - now + 1);
+                let t = [0, 1, 3][next(3) as usize];
+                let event = if s.ready() >> t & 1 == 1 {
+                    block(t, stamp)
+                } else {
+                    ready(t, stamp)
+                };
+                *period += if runs == 2 { stamp - now } else { 0 };
+                (runs, now) = (took(&mut s, event).2, stamp);
+            }
+            *period += if runs == 2 { until - now } else { 0 };
+            (runs, now) = (took(&mut s, tick(until)).2, until);
+        }
+        for opening in 0..=100 {
+            let sum: u32 = charged[opening..opening + 200].iter().sum();
+            assert!(sum >= 7750, "{sum}");
+        }
+    }
+}
+
+// Refusals of events --------------------------------------------------------
+
+#[test]
+fn stray_bytes_and_kinds() {
+    let mut s = start(4, 1000, 0, 0, &[50, 50]);
+    join(&mut s, 0, 0, 1);
+    took(&mut s, create(1, 1, 1, 1, 0));
+    assert_eq!(refused(&mut s, &[0; 12]), 9);
+    for kind in 8..=255 {
+        assert_eq!(refused(&mut s, &record(kind, 0, 0, 0, 0, 0)), 9);
+    }
+    let right = [
+        (tick(0), &[][..]),
+        (create(9, 1, 1, 1, 0), &[1, 2, 3, 8]),
+        (ready(1, 0), &[1]),
+        (block(0, 0), &[1]),
+        (set(0, 1, 0), &[1, 3]),
+        (end(0, 0), &[1]),
+        (resume(0), &[]),
+    ];
+    for (event, used) in right {
+        for place in [1, 2, 3, 8, 9, 10, 11] {
+            for bit in 0..8 {
+                let mut stray = event;
+                stray[place] |= 1 << bit;
+                if !used.contains(&place) {
+                    assert_eq!(refused(&mut s, &stray), 9, "{stray:?}");
+                }
+            }
+        }
+    }
+    // Also where another number would come next.
+    let mut stray = tick(5000);
+    stray[11] = 1;
+    assert_eq!(refused(&mut s, &stray), 9);
+}
+
+#[test]
+fn threads_and_partitions() {
+    let mut s = start(4, 1000, 0, 0, &[50, 50]);
+    join(&mut s, 63, 0, 1);
+    took(&mut s, create(0, 1, 1, 255, 0));
+    for t in [64, 65, 128, 191, 255] {
+        for event in [
+            create(t, 0, 1, 1, 0),
+            ready(t, 0),
+            block(t, 0),
+            set(t, 1, 0),
+            end(t, 0),
+        ] {
+            assert_eq!(refused(&mut s, &event), 11);
+        }
+    }
+    for event in [ready(5, 0), block(5, 0), set(5, 1, 0), end(5, 0)] {
+        assert_eq!(refused(&mut s, &event), 11);
+    }
+    assert_eq!(refused(&mut s, &create(63, 0, 1, 1, 0)), 11);
+    assert_eq!(refused(&mut s, &create(0, 2, 1, 0, 0)), 11);
+    assert_eq!(refused(&mut s, &create(1, 2, 1, 1, 0)), 12);
+    assert_eq!(refused(&mut s, &create(1, 255, 1, 1, 0)), 12);
+    assert_eq!(refused(&mut s, &create(1, 1, 1, 0, 0)), 12);
+    assert_eq!(refused(&mut s, &ready(63, 0)), 13);
+    assert_eq!(refused(&mut s, &block(0, 0)), 13);
+    // 10 before 11, 12 and 13.
+    assert_eq!(refused(&mut s, &ready(63, 2001)), 10);
+    assert_eq!(refused(&mut s, &ready(200, 2001)), 10);
+    assert_eq!(refused(&mut s, &create(1, 9, 1, 0, 2001)), 10);
+    // An ended number is free again, and doesn't bring its place back.
+    took(&mut s, end(63, 0));
+    assert_eq!(refused(&mut s, &ready(63, 0)), 11);
+    assert_eq!(took(&mut s, create(63, 1, 1, 1, 0)), (0, 0, 255));
+    assert_eq!(refused(&mut s, &block(63, 0)), 13);
+    assert_eq!(took(&mut s, end(63, 0)), (0, 0, 255));
+}
+
+#[test]
+fn lengths_of_events() {
+    let mut s = start(4, 1000, 0, 0, &[100]);
+    for length in (0..40).filter(|&length| length != 12) {
+        assert_eq!(refused(&mut s, &vec![1; length]), 14);
+    }
+    // A run: whole ones and a cut one, and a short place for lines.
+    let events = [&tick(1)[..], &tick(2), &tick(3)[..5]].concat();
+    let mut lines = [b'x'; 40];
+    assert_eq!(s.run(&events, &mut lines), 36);
+    assert_eq!(&lines, b"00 0 00 255\n00 0 00 255\n14 0 00 000\nxxxx");
+    assert_eq!(s.stamp(), 2);
+    let mut lines = [b'x'; 23];
+    assert_eq!(s.run(&[tick(3), tick(4)].concat(), &mut lines), 12);
+    assert_eq!(&lines, b"00 0 00 255\nxxxxxxxxxxx");
+    assert_eq!(s.stamp(), 3);
+    assert_eq!(s.run(&[], &mut lines), 0);
+}
+
+// The decision --------------------------------------------------------------
+
+#[test]
+fn order_in_the_line() {
+    let mut s = start(4, 1000, 0, 0, &[100]);
+    join(&mut s, 5, 0, 10);
+    assert_eq!(join(&mut s, 3, 0, 10), (2, 0, 5));
+    // Places are kept when priorities change.
+    assert_eq!(took(&mut s, set(3, 11, 0)), (2, 0, 3));
+    assert_eq!(took(&mut s, set(3, 10, 0)), (2, 0, 5));
+    assert_eq!(took(&mut s, set(5, 9, 0)), (2, 0, 3));
+    assert_eq!(took(&mut s, set(5, 10, 0)), (2, 0, 5));
+    // Who blocks and comes back stands at the tail.
+    assert_eq!(took(&mut s, block(5, 0)), (2, 0, 3));
+    assert_eq!(took(&mut s, ready(5, 0)), (2, 0, 3));
+    assert_eq!(took(&mut s, end(3, 0)), (2, 0, 5));
+    // The priority of one that isn't ready counts when it joins.
+    took(&mut s, create(3, 0, 10, 1, 0));
+    took(&mut s, set(3, 12, 0));
+    assert_eq!(took(&mut s, ready(3, 0)), (2, 0, 3));
+}
+
+#[test]
+fn top_priority_counts_this_core_only() {
+    let mut s = start(4, 1000, 0, 0, &[50, 50]);
+    join(&mut s, 0, 0, 10);
+    join(&mut s, 1, 1, 5);
+    took(&mut s, create(2, 1, 200, 0xFE, 0));
+    assert_eq!(took(&mut s, ready(2, 0)), (2, 0, 0));
+    assert_eq!(took(&mut s, set(2, 201, 0)), (2, 0, 0));
+    assert_eq!(took(&mut s, block(2, 0)), (2, 0, 0));
+    took(&mut s, ready(2, 0));
+    assert_eq!(took(&mut s, end(2, 0)), (2, 0, 0));
+    // Its number, used again with another mask, may run.
+    took(&mut s, create(2, 1, 200, 1, 0));
+    assert_eq!(took(&mut s, ready(2, 0)), (2, 1, 2));
+}
+
+#[test]
+fn policies_in_free_time() {
+    // Partition 2 sleeps. 0 has used more than 1 and stands above it.
+    for (policy, winner) in [(0, 0), (1, 1)] {
+        let mut s = start(4, 1000, policy, 0, &[40, 40, 20]);
+        join(&mut s, 0, 0, 20);
+        took(&mut s, tick(500));
+        assert_eq!(join(&mut s, 1, 1, 10), (1, winner, winner));
+        // With all awake the priority counts in both.
+        let all = join(&mut s, 2, 2, 1);
+        assert_eq!(all, (2, 0, 0));
+    }
+    // A partition with budget comes before one without in free time too.
+    for policy in [0, 1] {
+        let mut s = start(4, 1000, policy, 0, &[40, 10, 50]);
+        join(&mut s, 1, 1, 20);
+        took(&mut s, tick(500));
+        assert_eq!(join(&mut s, 0, 0, 10), (1, 0, 0));
+        // When nobody has any, priority or fraction decides: 1500 of 1600
+        // against 500 of 400.
+        took(&mut s, tick(1500));
+        let last = took(&mut s, set(0, 10, 2000));
+        assert_eq!(last, (1, 1 - policy as u8, 1 - policy as u8));
+    }
+}
+
+#[test]
+fn at_limit_goes_by_fraction() {
+    // Budgets 200 and 200, W 4, C 100.
+    let mut s = start(4, 100, 0, 0, &[50, 50]);
+    join(&mut s, 0, 0, 10);
+    join(&mut s, 1, 1, 20);
+    assert_eq!(took(&mut s, tick(100)), (2, 1, 1));
+    assert_eq!(took(&mut s, tick(200)), (2, 0, 0));
+    assert_eq!(took(&mut s, tick(300)), (2, 0, 0));
+    assert_eq!(took(&mut s, set(0, 10, 400)), (3, 0, 0));
+    assert_eq!(took(&mut s, set(0, 10, 401)), (3, 1, 1));
+}
+
+#[test]
+fn the_window_slides() {
+    let mut s = start(2, 100, 0, 0, &[100]);
+    join(&mut s, 0, 0, 1);
+    took(&mut s, tick(100));
+    assert_eq!(remaining(&s, 0), 100);
+    took(&mut s, set(0, 1, 130));
+    assert_eq!(remaining(&s, 0), 70);
+    // The tick's own time lands in the old slot, then the 100 are dropped.
+    took(&mut s, tick(210));
+    assert_eq!(remaining(&s, 0), 90);
+    took(&mut s, tick(211));
+    assert_eq!(remaining(&s, 0), 199);
+    // Time goes to who ran before the event.
+    took(&mut s, block(0, 221));
+    assert_eq!(remaining(&s, 0), 189);
+    took(&mut s, ready(0, 300));
+    assert_eq!(remaining(&s, 0), 189);
+}
+
+#[test]
+fn resume_forgets_and_keeps() {
+    let mut s = start(3, 100, 0, 0, &[50, 50]);
+    join(&mut s, 4, 0, 1);
+    join(&mut s, 2, 0, 1);
+    join(&mut s, 9, 1, 1);
+    took(&mut s, tick(100));
+    took(&mut s, set(4, 1, 190));
+    assert_eq!(took(&mut s, resume(7)), (2, 0, 4));
+    assert_eq!((remaining(&s, 0), remaining(&s, 1)), (150, 150));
+    assert_eq!((s.stamp(), s.since_tick()), (7, Cycles(0)));
+    assert_eq!(s.ready(), 1 << 4 | 1 << 2 | 1 << 9);
+    assert_eq!(took(&mut s, end(4, 7)), (2, 0, 2));
+    // The running one is charged from the resume on.
+    took(&mut s, tick(57));
+    assert_eq!((remaining(&s, 0), remaining(&s, 1)), (100, 150));
+}
+
+#[test]
+fn largest_numbers() {
+    let mut s = start(400, 999_900, 0, 0, &[100]);
+    join(&mut s, 0, 0, 1);
+    assert_eq!(remaining(&s, 0), 399_960_000);
+    let mut now = 0_u32;
+    for _ in 0..900 {
+        now = now.wrapping_add(1_999_800);
+        took(&mut s, tick(now));
+    }
+    took(&mut s, set(0, 1, now.wrapping_add(1_999_800)));
+    assert_eq!(s.account(0).1, Cycles(799_920_000));
+    assert_eq!(remaining(&s, 0), 399_960_000 - 799_920_000);
+    // Cross products of that size.
+    let mut s = start(400, 999_900, 0, 0, &[50, 50]);
+    join(&mut s, 0, 0, 1);
+    let mut now = 0_u32;
+    for _ in 0..399 {
+        now = now.wrapping_add(1_999_800);
+        took(&mut s, tick(now));
+    }
+    now = now.wrapping_add(1_999_800);
+    assert_eq!(took(&mut s, block(0, now)), (0, 0, 255));
+    took(&mut s, ready(0, now));
+    assert_eq!(join(&mut s, 1, 1, 0), (2, 1, 1));
+}
+
+#[test]
+fn lines() {
+    let text = |refusal, mode, partition, thread| {
+        let mut out = [0; 12];
+        Line {
+            refusal,
+            mode,
+            partition,
+            thread,
+        }
+        .write(&mut out);
+        String::from_utf8(out.to_vec()).unwrap()
+    };
+    assert_eq!(text(0, 0, 0, 255), "00 0 00 255\n");
+    assert_eq!(text(0, 3, 15, 63), "00 3 15 063\n");
+    assert_eq!(text(14, 0, 0, 0), "14 0 00 000\n");
+}
+
+// Streams -------------------------------------------------------------------
+
+/// The fast scheduler against the plain one, after every event.
+#[test]
+fn streams_agree_with_the_plain_model() {
+    let mut lines = 0;
+    for seed in 0..1500 {
+        let case = stream(seed);
+        let Ok(mut fast) = Scheduler::start(&case.sheet) else {
+            continue;
+        };
+        let mut plain = Plain::new(fast.settings());
+        for (number, event) in case.events.chunks(12).enumerate().take(400) {
+            let line = fast.event(event);
+            let wanted = plain.event(event);
+            let got = [line.refusal, line.mode, line.partition, line.thread];
+            assert_eq!(got, wanted, "seed {seed}, event {number}");
+            lines += 1;
+            if number % 7 == 0 {
+                for p in 0..fast.settings().partitions {
+                    assert_eq!(fast.remaining(p), Ok(Balance(plain.remaining(p))));
+                }
+                let (mode, partition, thread) = plain.decide();
+                let decision = fast.decision();
+                let got = (
+                    decision.mode,
+                    decision.partition as usize,
+                    decision.thread as usize,
+                );
+                assert_eq!(got, (mode, partition, thread));
+            }
+        }
+    }
+    assert!(lines > 100_000);
+}
+
+#[test]
+fn streams_repeat_and_reach_everything() {
+    let mut reach = Reach::default();
+    for seed in 0..2000 {
+        let case = stream(seed);
+        if seed % 10 == 0 {
+            assert_eq!(case, stream(seed));
+        }
+        let lines = answer(&case);
+        let count = if read_sheet(&case.sheet).is_ok() {
+            case.events.len().div_ceil(12)
+        } else {
+            1
+        };
+        assert_eq!(lines.len(), 12 * count);
+        reach.count(&case, &lines);
+        assert!(!case.to_string().is_empty());
+    }
+    assert!(reach.complete(), "{reach}");
+    // Most events are accepted.
+    assert!(reach.refusals[0] * 10 > reach.lines * 8, "{reach}");
+}
+
+#[test]
+fn a_run_is_its_events_however_cut() {
+    for seed in 3000..3100 {
+        let case = stream(seed);
+        let Ok(mut s) = Scheduler::start(&case.sheet) else {
+            continue;
+        };
+        let mut lines = Vec::new();
+        for piece in case.events.chunks(36) {
+            let mut out = [0; 36];
+            let written = s.run(piece, &mut out);
+            lines.extend_from_slice(&out[..written]);
+        }
+        assert_eq!(lines, answer(&case), "seed {seed}");
+    }
+}
