@@ -14,8 +14,7 @@ pub struct Fixed {
 type Event = (u8, u8, u8, u8, u32, u8);
 
 pub fn sheet(window: u32, tick: u32, policy: u32, core: u32, shares: &[u32]) -> Vec<u8> {
-    let mut text =
-        format!("W 00 {window:06}\nC 00 {tick:06}\nP 00 {policy:06}\nM 00 {core:06}\n");
+    let mut text = format!("W 00 {window:06}\nC 00 {tick:06}\nP 00 {policy:06}\nM 00 {core:06}\n");
     for (p, share) in shares.iter().enumerate() {
         text += &format!("S {p:02} {share:06}\n");
     }
