@@ -1,5 +1,7 @@
 //! The proved scheduler through its C interface, as include/saplingloft.h
-//! declares it. Only here is anything `unsafe`.
+//! declares it. A program need not use all of it.
+
+#![allow(dead_code)]
 
 #[repr(C)]
 #[derive(Clone, Copy, Debug, PartialEq, Eq)]
