@@ -5,6 +5,7 @@ use units::Cycles;
 use units::Ticks;
 
 // A thread's record; all zero where the thread does not exist.
+#[repr(C)]
 pub struct Thread {
     pub exists: bool,
     pub ready: bool,
@@ -15,6 +16,7 @@ pub struct Thread {
 }
 
 // The scheduler's state on one core, beside the lent history.
+#[repr(C)]
 pub struct State {
     pub settings: Settings,
     // The paper's totals, used(p): what each partition was charged in the window.

@@ -17,6 +17,7 @@ mod numbers; // the limits of their numbers
 
 // What a share sheet says. Partitions are numbered from 0, and 0 is System. Policy, core and count are plain numbers, so that settings
 // outside their limits can be given, and are refused.
+#[repr(C)]
 pub struct Settings {
     // The paper's W.
     pub window: Ticks,

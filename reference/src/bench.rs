@@ -1,0 +1,265 @@
+//! Events a second of the proved scheduler and of the reference: the same
+//! streams, each behind a C function, in turns, the best of many batches.
+//!
+//!   bench [rounds]     batches a row, 200 if nothing is said
+//!
+//! A row is a sheet of so many partitions with so many ready threads and a
+//! window of W ticks. Its stream goes round through a tick, a block, a ready
+//! and a new priority, a quarter of a tick apart, and each event is accepted.
+//! Both start a batch from the same point, after two windows. What is timed
+//! is the call, or the calls: one `run` over all records, or an `event` for
+//! each.
+
+mod proved;
+
+use reference::{Line, Scheduler, RECORD};
+use std::hint::black_box;
+use std::time::{Duration, Instant};
+
+const TICK: u32 = 1000;
+/// Events of a batch through `run`, and through single events.
+const RUN: usize = 2048;
+const EVENTS: usize = 256;
+
+// The reference behind the same kind of boundary as the proved one: a C
+// function, pointers and lengths. It keeps its state to itself.
+
+#[inline(never)]
+extern "C" fn reference_run(
+    scheduler: &mut Scheduler,
+    events: *const u8,
+    n: usize,
+    lines: *mut u8,
+    room: usize,
+) -> usize {
+    let events = unsafe { std::slice::from_raw_parts(events, n) };
+    let lines = unsafe { std::slice::from_raw_parts_mut(lines, room) };
+    scheduler.run(events, lines)
+}
+
+#[inline(never)]
+extern "C" fn reference_event(
+    scheduler: &mut Scheduler,
+    event: *const u8,
+    n: usize,
+) -> proved::Numbers {
+    let Line {
+        refusal,
+        mode,
+        partition,
+        thread,
+    } = scheduler.event(unsafe { std::slice::from_raw_parts(event, n) });
+    proved::Numbers {
+        refusal,
+        mode,
+        partition,
+        thread,
+    }
+}
+
+/// A sheet, and the events up to the point that batches start from.
+struct Stream {
+    sheet: Vec<u8>,
+    lead: Vec<u8>,
+    batch: Vec<u8>,
+}
+
+fn stream(partitions: u8, threads: u8, window: u32) -> Stream {
+    let mut sheet = format!("W 00 {window:06}\nC 00 {TICK:06}\nP 00 000000\nM 00 000000\n");
+    let mut left = 100;
+    for p in 0..partitions {
+        let share = left / u32::from(partitions - p);
+        left -= share;
+        sheet += &format!("S {p:02} {share:06}\n");
+    }
+    let mut lead = Vec::new();
+    for t in 0..threads {
+        // A few levels, so that there are ties.
+        put(&mut lead, [2, t, t % partitions, 10 + t % 5], 0, 1);
+        put(&mut lead, [3, t, 0, 0], 0, 0);
+    }
+    let mut stamp = 0;
+    let mut turn = 0;
+    let mut turns = |events: &mut Vec<u8>, many: usize| {
+        for _ in 0..many {
+            let t = (turn / 4 % usize::from(threads)) as u8;
+            let record = match turn % 4 {
+                0 => [1, 0, 0, 0],
+                1 => [4, t, 0, 0],
+                2 => [3, t, 0, 0],
+                _ => [5, t, 0, 10 + (turn / 4 * 7 % 5) as u8],
+            };
+            stamp += TICK / 4;
+            put(events, record, stamp, 0);
+            turn += 1;
+        }
+    };
+    turns(&mut lead, 8 * window as usize + 4);
+    let mut batch = Vec::new();
+    turns(&mut batch, RUN);
+    Stream {
+        sheet: sheet.into_bytes(),
+        lead,
+        batch,
+    }
+}
+
+fn put(events: &mut Vec<u8>, fields: [u8; 4], stamp: u32, mask: u8) {
+    events.extend(fields);
+    events.extend(stamp.to_le_bytes());
+    events.extend([mask, 0, 0, 0]);
+}
+
+/// The best times of a batch: proved, reference.
+#[derive(Clone, Copy)]
+struct Best(Duration, Duration);
+
+impl Best {
+    const NONE: Best = Best(Duration::MAX, Duration::MAX);
+
+    fn nanoseconds(&self, events: usize) -> (f64, f64) {
+        let each = |time: Duration| time.as_nanos() as f64 / events as f64;
+        (each(self.0), each(self.1))
+    }
+}
+
+fn timed<T>(best: &mut Duration, work: impl FnOnce() -> T) -> T {
+    let begin = Instant::now();
+    let done = black_box(work());
+    *best = (*best).min(begin.elapsed());
+    done
+}
+
+/// Nanoseconds an event: through `run`, through single events.
+struct Row {
+    run: (f64, f64),
+    event: (f64, f64),
+}
+
+fn row(partitions: u8, threads: u8, window: u32, rounds: usize) -> Row {
+    let Stream { sheet, lead, batch } = stream(partitions, threads, window);
+    let mut lines = vec![0; lead.len()];
+    let mut other = lines.clone();
+    // The point that batches start from, in both.
+    let mut history = vec![0; usize::from(partitions) * window as usize];
+    let opening = proved::start(&sheet, &mut history);
+    let state = proved::run(opening.state, &mut history, &lead, &mut lines).state;
+    let Ok(mut scheduler) = Scheduler::start(&sheet) else {
+        panic!("the sheet is refused");
+    };
+    scheduler.run(&lead, &mut other);
+    assert!(lines == other && lines.chunks(RECORD).all(|line| line[..2] == *b"00"));
+    lines.resize(batch.len(), 0);
+    other.resize(batch.len(), 0);
+
+    let mut whole = Best::NONE;
+    let mut single = Best::NONE;
+    let mut work = history.clone();
+    let singles = &batch[..EVENTS * RECORD];
+    for _ in 0..rounds {
+        work.copy_from_slice(&history);
+        let report = timed(&mut whole.0, || {
+            proved::run(black_box(state), &mut work, &batch, &mut lines)
+        });
+        assert!(report.refusal == 0 && report.taken == RUN);
+        let mut again = scheduler.clone();
+        timed(&mut whole.1, || {
+            reference_run(
+                &mut again,
+                batch.as_ptr(),
+                batch.len(),
+                other.as_mut_ptr(),
+                other.len(),
+            )
+        });
+        assert!(lines == other);
+
+        work.copy_from_slice(&history);
+        let mut kept = state;
+        timed(&mut single.0, || {
+            for event in singles.chunks_exact(RECORD) {
+                let reply = proved::event(kept, &mut work, event);
+                black_box(reply.numbers);
+                kept = reply.state;
+            }
+        });
+        let mut again = scheduler.clone();
+        timed(&mut single.1, || {
+            for event in singles.chunks_exact(RECORD) {
+                black_box(reference_event(&mut again, event.as_ptr(), event.len()));
+            }
+        });
+    }
+    Row {
+        run: whole.nanoseconds(RUN),
+        event: single.nanoseconds(EVENTS),
+    }
+}
+
+fn print(partitions: u8, threads: u8, window: u32, row: &Row) {
+    let Row { run, event } = row;
+    println!(
+        "| {partitions} | {threads} | {window} | {:.1} | {:.1} | {:.2} | {:.2} | {:.1} | {:.3} |",
+        1000.0 / run.0,
+        1000.0 / run.1,
+        run.1 / run.0,
+        1000.0 / event.0,
+        1000.0 / event.1,
+        event.1 / event.0,
+    );
+}
+
+fn grows(what: &str, rounds: usize, points: &[(u8, u8, u32)]) {
+    println!();
+    println!("| {what} | run, ns | event, ns | reference run, ns |");
+    println!("|---|---|---|---|");
+    for &(partitions, threads, window) in points {
+        let Row { run, event } = row(partitions, threads, window, rounds);
+        let at = match what.split(' ').next() {
+            Some("threads") => u32::from(threads),
+            Some("partitions") => u32::from(partitions),
+            _ => window,
+        };
+        println!("| {at} | {:.0} | {:.0} | {:.0} |", run.0, event.0, run.1);
+    }
+}
+
+fn main() {
+    let rounds = std::env::args().nth(1).map_or(200, |word| {
+        word.parse().expect("bench [rounds]: a whole number")
+    });
+    println!(
+        "Millions of events a second, and the proved scheduler's as a part of the reference's:"
+    );
+    println!();
+    println!("| partitions | ready threads | W | run: proved | reference | ratio | event: proved | reference | ratio |");
+    println!("|---|---|---|---|---|---|---|---|---|");
+    for partitions in [1, 4, 16] {
+        for threads in [1, 8, 64] {
+            for window in [4, 100, 400] {
+                let row = row(partitions, threads, window, rounds);
+                print(partitions, threads, window, &row);
+            }
+        }
+    }
+    println!();
+    println!("Nanoseconds an event, as one thing grows:");
+    let threads = [1, 2, 4, 8, 16, 32, 64];
+    let partitions = [1, 2, 4, 8, 16];
+    let windows = [4, 25, 50, 100, 200, 400];
+    grows(
+        "threads (4 partitions, W 100)",
+        rounds,
+        &threads.map(|t| (4, t, 100)),
+    );
+    grows(
+        "partitions (16 threads, W 100)",
+        rounds,
+        &partitions.map(|p| (p, 16, 100)),
+    );
+    grows(
+        "W (4 partitions, 16 threads)",
+        rounds,
+        &windows.map(|w| (4, 16, w)),
+    );
+}

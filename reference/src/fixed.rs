@@ -1,0 +1,169 @@
+//! Cases with known lines: the worked run of document 01 and the cases of
+//! its "Both sides of each line" that show in lines.
+
+use reference::streams::Case;
+
+pub struct Fixed {
+    pub name: &'static str,
+    pub case: Case,
+    /// The lines, or the last of them.
+    pub lines: &'static str,
+}
+
+/// An event: kind, thread, partition, priority, stamp, mask.
+type Event = (u8, u8, u8, u8, u32, u8);
+
+pub fn sheet(window: u32, tick: u32, policy: u32, core: u32, shares: &[u32]) -> Vec<u8> {
+    let mut text = format!("W 00 {window:06}\nC 00 {tick:06}\nP 00 {policy:06}\nM 00 {core:06}\n");
+    for (p, share) in shares.iter().enumerate() {
+        text += &format!("S {p:02} {share:06}\n");
+    }
+    text.into_bytes()
+}
+
+pub fn tick(stamp: u32) -> Event {
+    (1, 0, 0, 0, stamp, 0)
+}
+
+pub fn create(thread: u8, partition: u8, priority: u8, stamp: u32, mask: u8) -> Event {
+    (2, thread, partition, priority, stamp, mask)
+}
+
+pub fn ready(thread: u8, stamp: u32) -> Event {
+    (3, thread, 0, 0, stamp, 0)
+}
+
+pub fn bytes(events: &[Event]) -> Vec<u8> {
+    let mut bytes = Vec::new();
+    for &(kind, thread, partition, priority, stamp, mask) in events {
+        bytes.extend([kind, thread, partition, priority]);
+        bytes.extend(stamp.to_le_bytes());
+        bytes.extend([mask, 0, 0, 0]);
+    }
+    bytes
+}
+
+fn fixed(name: &'static str, sheet: Vec<u8>, events: &[Event], lines: &'static str) -> Fixed {
+    let events = bytes(events);
+    Fixed {
+        name,
+        case: Case { sheet, events },
+        lines,
+    }
+}
+
+pub fn cases() -> Vec<Fixed> {
+    let halves = |window, tick| sheet(window, tick, 0, 0, &[50, 50]);
+    let mut comma = halves(4, 1000);
+    comma[60..].copy_from_slice(b"S 01 0000,5\n");
+    // Two threads, of which the first, in partition 0, has run for so long.
+    let after = |run: u32| {
+        [
+            create(0, 0, 20, 0, 1),
+            create(1, 1, 10, 0, 1),
+            ready(0, 0),
+            ready(1, 0),
+            tick(run),
+        ]
+    };
+    vec![
+        fixed(
+            "the worked run",
+            halves(4, 1000),
+            &[
+                create(0, 0, 10, 0, 1),
+                create(1, 1, 20, 0, 1),
+                ready(0, 0),
+                ready(1, 0),
+                tick(1000),
+                tick(2000),
+                tick(3000),
+                tick(4000),
+                ready(1, 4500),
+                tick(7000),
+            ],
+            "00 0 00 255\n00 0 00 255\n00 1 00 000\n00 2 01 001\n00 2 01 001\n\
+             00 2 00 000\n00 2 00 000\n00 2 01 001\n13 0 00 000\n10 0 00 000\n",
+        ),
+        fixed(
+            "remaining 250 has budget",
+            halves(2, 1000),
+            &after(750),
+            "00 2 00 000\n",
+        ),
+        fixed(
+            "remaining 249 does not",
+            halves(2, 1000),
+            &after(751),
+            "00 2 01 001\n",
+        ),
+        fixed(
+            "a stamp that wraps",
+            halves(4, 1000),
+            &[(7, 0, 0, 0, 4_294_967_290, 0), tick(4)],
+            "00 0 00 255\n00 0 00 255\n",
+        ),
+        fixed(
+            "2 × C between ticks",
+            halves(4, 1000),
+            &[tick(2000), tick(4001), tick(4000)],
+            "00 0 00 255\n10 0 00 000\n00 0 00 255\n",
+        ),
+        fixed(
+            "the whole share sleeps",
+            sheet(4, 1000, 0, 0, &[100, 0]),
+            &[create(5, 1, 9, 0, 1), ready(5, 0)],
+            "00 0 00 255\n00 1 01 005\n",
+        ),
+        fixed(
+            "a thread of another core",
+            halves(4, 1000),
+            &[create(5, 1, 9, 0, 2), ready(5, 0)],
+            "00 0 00 255\n00 0 00 255\n",
+        ),
+        fixed("no sheet", Vec::new(), &[tick(0)], "01 0 00 000\n"),
+        fixed("half a percent", comma, &[tick(0)], "02 0 00 000\n"),
+        fixed("W 1", halves(1, 1000), &[tick(0)], "03 0 00 000\n"),
+        fixed("W 401", halves(401, 1000), &[tick(0)], "03 0 00 000\n"),
+        fixed("C 150", halves(4, 150), &[tick(0)], "04 0 00 000\n"),
+        fixed(
+            "a lone share of 99",
+            sheet(4, 1000, 0, 0, &[99]),
+            &[tick(0)],
+            "06 0 00 000\n",
+        ),
+        fixed(
+            "mask 0",
+            halves(4, 1000),
+            &[create(5, 1, 9, 0, 0)],
+            "12 0 00 000\n",
+        ),
+    ]
+}
+
+/// W 100, C 1000, four partitions, each with a thread, that of partition 3,
+/// whose share is 10, with the lowest priority. It is to be charged at least
+/// 7,750 cycles in 200 ticks.
+pub fn starved() -> Case {
+    let mut events = Vec::new();
+    for p in 0..4 {
+        events.push(create(p, p, 40 - p, 0, 1));
+        events.push(ready(p, 0));
+    }
+    events.extend((1..=300).map(|n| tick(1000 * n)));
+    Case {
+        sheet: sheet(100, 1000, 0, 0, &[40, 30, 20, 10]),
+        events: bytes(&events),
+    }
+}
+
+/// What partition 3 was charged in the 200 ticks after the hundredth of
+/// [`starved`]'s lines: a tick's time goes to the partition that the line
+/// before names.
+pub fn charged(lines: &[u8]) -> u32 {
+    let line = |tick: usize| &lines[12 * (7 + tick)..][..12];
+    (101..=300)
+        .filter(|&tick| line(tick - 1)[5..7] == *b"03" && line(tick)[..2] == *b"00")
+        .count() as u32
+        * 1000
+}

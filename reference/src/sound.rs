@@ -1,0 +1,86 @@
+//! Whether the doors refuse a state, worked out in the plainest way from
+//! "Sound means" of document 01. The reference has no states that others
+//! may change; this is what the proved doors' answers are compared with.
+
+use crate::proved::{Settings, State};
+
+/// 7, 8 or 0 for a state beside a history.
+pub fn refused(state: &State, history: &[u32]) -> u8 {
+    let settings = &state.settings;
+    if !within_limits(settings) {
+        return 8;
+    }
+    let rows = usize::from(settings.count) * settings.window as usize;
+    match history.get(..rows) {
+        None => 7,
+        Some(rows) if accounts(state, rows) && threads(state) => 0,
+        Some(_) => 8,
+    }
+}
+
+fn within_limits(settings: &Settings) -> bool {
+    let Settings {
+        window,
+        tick,
+        policy,
+        core,
+        count,
+        shares,
+    } = settings;
+    (2..=400).contains(window)
+        && (100..=999_900).contains(tick)
+        && tick % 100 == 0
+        && *policy <= 1
+        && *core <= 7
+        && (1..=16).contains(count)
+        && sum(&shares[..usize::from(*count)]) == 100
+}
+
+fn accounts(state: &State, rows: &[u32]) -> bool {
+    let window = state.settings.window as usize;
+    let count = usize::from(state.settings.count);
+    let longest = 2 * u64::from(state.settings.tick);
+    let since = u64::from(state.since);
+    let slot = state.slot as usize;
+    let in_slot = |k: usize| -> u64 { rows.iter().skip(k).step_by(window).map(wide).sum() };
+    slot < window
+        && since <= longest
+        && rows
+            .chunks(window)
+            .zip(&state.used)
+            .all(|(row, used)| sum(row) == wide(used))
+        && (0..window).all(|k| in_slot(k) <= longest)
+        && in_slot(slot) <= since
+        && state.settings.shares[count..].iter().all(|&n| n == 0)
+        && state.used[count..].iter().all(|&n| n == 0)
+}
+
+fn threads(state: &State) -> bool {
+    let queued = usize::from(state.queued);
+    if queued > 64 {
+        return false;
+    }
+    let (line, unused) = state.queue.split_at(queued);
+    let allowed = |t: u8| state.threads[usize::from(t)].mask >> state.settings.core & 1 == 1;
+    let times = |t: usize| line.iter().filter(|&&u| usize::from(u) == t).count();
+    line.iter().all(|&t| t < 64)
+        && unused.iter().all(|&t| t == 0)
+        && (0..64).all(|t| {
+            let thread = state.threads[t];
+            let fine = if thread.exists {
+                thread.partition < state.settings.count && thread.mask != 0
+            } else {
+                !thread.ready && [thread.partition, thread.priority, thread.mask] == [0; 3]
+            };
+            fine && times(t) == usize::from(thread.ready)
+        })
+        && (state.running == 255 || line.contains(&state.running) && allowed(state.running))
+}
+
+fn sum(numbers: &[u32]) -> u64 {
+    numbers.iter().map(wide).sum()
+}
+
+fn wide(n: &u32) -> u64 {
+    u64::from(*n)
+}
