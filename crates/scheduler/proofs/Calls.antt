@@ -18,7 +18,6 @@ use Rattle.model.specs.Typed.{Lengths}
 use Rattle.model.specs.Policy.{Decided}
 use Rattle.model.specs.Event.{refusedState}
 use Rattle.model.specs.Step.{Saved, saved, answer}
-use Rattle.model.specs.Step as Step
 use Rattle.model.specs.Run.{Entry, run, fresh, after}
 use Rattle.model.specs.Doors as Doors
 use Rattle.model.specs.Answers.{Line, lineOf, answerLine}
@@ -29,14 +28,13 @@ use Rattle.guarantee.specs.Demand3.{accepted, Served}
 use Rattle.guarantee.specs.Ledger.{ledgerOf, acceptedOf}
 use Rattle.guarantee.specs.Account.{Accounted, decisionsFrom}
 use Rattle.model.proofs.Accepted.{of-fit}
-use Rattle.guarantee.proofs.Answered.{Good}
 use Rattle.guarantee.proofs.Answered as Answers
 use Rattle.guarantee.proofs.Log.{Log, run-log, accepted-is, when-refused}
 use Rattle.guarantee.proofs.Demand3.{demand3}
 use Rattle.guarantee.proofs.Account.{account, answers}
 use Rattle.guarantee.proofs.Totals.{totals}
 use Rattle.guarantee.proofs.Fresh.{start-good}
-use Rattle.scheduler.specs.Answers.{Answered, Begun}
+use Rattle.scheduler.specs.Answers.{Answered}
 use Rattle.scheduler.specs.Calls.{Call, Calls, leftBy, bytesOf, chosenBy, entryOf, entriesOf, decides, acceptedCalls, Session}
 use Rattle.scheduler.specs.Calls.{AcceptedIsDecided, CallsAreRun, DoorDemand3, DoorAccount, DoorAnswers, DoorTotals, StartDemand3}
 use Rattle.scheduler.specs.declared.Started.{Started}
@@ -65,9 +63,12 @@ left-after s h (c ∷ cs) (q, qs) = left-after (c .answer .state) (c .history) c
 pub calls-are-run : CallsAreRun
 calls-are-run s h calls q = record {
   entries = entries-run s h calls q;
-  lines = sym (map-map (λ (e : Entry). answerLine (e .answer)) entryOf calls) ∙ ap (map (λ (e : Entry). answerLine (e .answer))) (entries-run s h calls q);
+  lines = sym (map-map line entryOf calls) ∙ ap (map line) (entries-run s h calls q);
   left = left-after s h calls q;
 }
+  where
+    line : Entry → Line
+    line e = answerLine (e .answer)
 
 pub accepted-is-decided : AcceptedIsDecided
 accepted-is-decided c = go (c .answer .verdict)
@@ -79,11 +80,13 @@ accepted-is-decided c = go (c .answer .verdict)
 -- ---- demand 3
 
 -- an accepted event shows that the state from which the run started is not refused
-shown : (v : Saved) (before : List Entry) (e : Entry) (rest : List Entry) → Log v (before ++ (e ∷ rest)) → accepted e ≡ true → refusedState (v .state) (v .history) ≡ 0
+shown : (v : Saved) (before : List Entry) (e : Entry) (rest : List Entry) → Log v (before ++ (e ∷ rest)) → accepted e ≡ true
+    → refusedState (v .state) (v .history) ≡ 0
 shown v [] e rest l y = of-fit (v .state) (v .history) (Answers.accepted v (e .event) (sym (accepted-is v e (l .0)) ∙ y) .fit)
 shown v (x ∷ before) e rest l y = go (accepted x) refl (shown (x .answer .after) before e rest (l .1) y)
   where
-    go : (z : Bool) → accepted x ≡ z → refusedState (x .answer .after .state) (x .answer .after .history) ≡ 0 → refusedState (v .state) (v .history) ≡ 0
+    go : (z : Bool) → accepted x ≡ z → refusedState (x .answer .after .state) (x .answer .after .history) ≡ 0
+        → refusedState (v .state) (v .history) ≡ 0
     go true q k = of-fit (v .state) (v .history) (Answers.accepted v (x .event) (sym (accepted-is v x (l .0)) ∙ q) .fit)
     go false q k = subst (λ (w : Saved). refusedState (w .state) (w .history) ≡ 0) (when-refused v x (l .0) q) k
 
@@ -135,7 +138,8 @@ module _ (sheet lent : List ℕ) (r : Started) (h : List ℕ) (calls : List Call
       (subst (λ (es : List (List ℕ)). Accounted c lent (reverse es) (after (fresh c lent) (bytesOf calls))) kept-bytes
       (account sheet lent accepted-start (bytesOf calls)))
 
-  pub answers-here : map (λ x. chosenBy (lineOf (x .answer .verdict))) (acceptedCalls calls) ≡ decisionsFrom c [] (bytesOf (acceptedCalls calls))
+  pub answers-here : map (λ x. chosenBy (lineOf (x .answer .verdict))) (acceptedCalls calls)
+      ≡ decisionsFrom c [] (bytesOf (acceptedCalls calls))
   answers-here =
       sym (map-map (λ (e : Entry). e .answer .decision) entryOf (acceptedCalls calls))
       ∙ ap (map (λ (e : Entry). e .answer .decision)) (sym kept)
@@ -148,9 +152,11 @@ module _ (sheet lent : List ℕ) (r : Started) (h : List ℕ) (calls : List Call
       ∙ totals sheet lent accepted-start (bytesOf calls) p i
       ∙ ap (λ (es : List Entry). sum (take (W c) (ledgerOf p es))) fresh-run
 
+  lengths : Lengths (r .state)
+  lengths = subst (λ (v : Saved). Lengths (v .state)) (sym from-fresh) (start-good sheet lent accepted-start .lengths)
+
   pub demand3-here : Served (r .state) (entriesOf calls)
-  demand3-here =
-      door-demand3 (r .state) h (subst (λ (v : Saved). Lengths (v .state)) (sym from-fresh) (start-good sheet lent accepted-start .lengths)) calls (k .called)
+  demand3-here = door-demand3 (r .state) h lengths calls (k .called)
 
 -- DEMAND 2, the account, the answers and the ledger
 pub door-account : DoorAccount

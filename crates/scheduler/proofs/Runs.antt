@@ -1,5 +1,5 @@
 -- A run of many events does what calls of the event door do, one for each record that it takes.
-use mathlib.Core.Path.{_≡_, refl, sym, ap, ap₂, _∙_}
+use mathlib.Core.Path.{_≡_, refl, sym, ap, _∙_}
 use Prim.Native.Nat.{ℕ, _*_}
 use mathlib.Core.Bool.{Bool, true, false, not, cond, _&&_}
 use mathlib.Core.List.{List, [], _∷_, _++_}
@@ -9,7 +9,6 @@ use lib.Dec.{eqb, ltb}
 use Rattle.lists.specs.Lists.{any}
 use Rattle.refusals.specs.Refusals.{outcomeOf}
 use Rattle.refusals.specs.declared.Refusal.the-variants.{Buffer, Unsound, Kind, Elapsed, Thread, Partition, Readiness, Length}
-use Rattle.refusals.specs.declared.Outcome.{Outcome}
 use Rattle.refusals.specs.declared.Outcome.the-variants.{Accepted, Refused}
 use Rattle.sheet.specs.Settings.{budget, withinLimits}
 use Rattle.model.specs.State.{idle, wanted}
@@ -17,10 +16,9 @@ use Rattle.model.specs.Sound.{sound}
 use Rattle.model.specs.Event.{wellFormed, tooLong, wrongThread, wrongPlace, wrongReadiness, refusedState, refusedEvent, refused}
 use Rattle.model.specs.Policy.{partitions, competing, hasBudget, mode, winner, chosen, decideFor, decide}
 use Rattle.model.specs.Step.{Saved, saved, apply, answer}
-use Rattle.model.specs.Run.{Entry, run, after}
+use Rattle.model.specs.Run.{run, after}
 use Rattle.model.specs.Answers.{modeOf, decidedOf, lineOf, textOf}
 use Rattle.model.specs.declared.State.{State}
-use Rattle.model.specs.declared.Mode.{Mode}
 use Rattle.model.specs.declared.Mode.the-variants.{Idle, FreeTime, Underload, AtLimit}
 use Rattle.model.specs.declared.Decision.{Decision}
 use Rattle.scheduler.specs.Answers.{Answered}
@@ -138,9 +136,7 @@ as-calls s h events out r h′ out′ f l calls q e = record {
   called = q;
   records = e;
   left = left ∙ ap (after v) e ∙ sym (here .state) ∙ sym (f .after);
-  lines =
-  l ∙ here .written
-  ∙ ap (λ (k : List ℕ). k ++ drop (12 * r .taken) out) (ap (λ (k : List (List ℕ)). linesOf (run v k)) (sym e) ∙ ap linesOf (sym entries) ∙ sym (lines-are calls));
+  lines = l ∙ here .written ∙ ap (λ (k : List ℕ). k ++ drop (12 * r .taken) out) (sym written);
 }
   where
     v : Saved
@@ -154,6 +150,9 @@ as-calls s h events out r h′ out′ f l calls q e = record {
 
     left : leftBy s h calls ≡ after v (bytesOf calls)
     left = calls-are-run s h calls q .left
+
+    written : callLines calls ≡ linesOf (run v (recordsOf events (r .taken)))
+    written = lines-are calls ∙ ap linesOf (entries ∙ ap (run v) e)
 
 pub run-is-calls : RunIsCalls
 run-is-calls s h events out r h′ out′ f l =

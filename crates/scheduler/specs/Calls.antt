@@ -37,8 +37,8 @@ pub record Call : Type 0 where
   pub answer : Answer
   pub history : List ℕ
 
--- calls one after the other, the first on the state s and the history h, each other on what the one before returned and left; of each there is
--- what the contract of `event` says, and nothing more
+-- calls one after the other, the first on the state s and the history h, each other on what the one before returned and left; of each we
+-- have what the contract of `event` says, and nothing more
 abbrev pub Calls : State → List ℕ → List Call → Type 0
 Calls s h [] = Unit {0}
 Calls s h (c ∷ cs) = Answered (c .answer) (c .history) (Step.answer (saved s h) (c .bytes)) × Calls (c .answer .state) (c .history) cs
@@ -61,11 +61,11 @@ entryOf c =
     record {
       event = c .bytes;
       answer =
-      record {
-        refusal = lineOf (c .answer .verdict) .refusal;
-        decision = chosenBy (lineOf (c .answer .verdict));
-        after = saved (c .answer .state) (c .history);
-      };
+          record {
+            refusal = lineOf (c .answer .verdict) .refusal;
+            decision = chosenBy (lineOf (c .answer .verdict));
+            after = saved (c .answer .state) (c .history);
+          };
     }
 
 abbrev pub entriesOf : List Call → List Entry
@@ -116,18 +116,21 @@ DoorAccount =
 abbrev pub DoorAnswers : Type 0
 DoorAnswers =
     (sheet lent : List ℕ) (r : Started) (h : List ℕ) (calls : List Call) → Session sheet lent r h calls →
-    map (λ c. chosenBy (lineOf (c .answer .verdict))) (acceptedCalls calls) ≡ decisionsFrom (settingsOf sheet) [] (bytesOf (acceptedCalls calls))
+    map (λ c. chosenBy (lineOf (c .answer .verdict))) (acceptedCalls calls)
+    ≡ decisionsFrom (settingsOf sheet) [] (bytesOf (acceptedCalls calls))
 
 -- used(p) is what the ledger of the calls says
 abbrev pub DoorTotals : Type 0
 DoorTotals =
-    (sheet lent : List ℕ) (r : Started) (h : List ℕ) (calls : List Call) → Session sheet lent r h calls → (p : ℕ) → p < settingsOf sheet .count →
+    (sheet lent : List ℕ) (r : Started) (h : List ℕ) (calls : List Call) → Session sheet lent r h calls →
+    (p : ℕ) → p < settingsOf sheet .count →
     used (leftBy (r .state) h calls .state) p ≡ sum (take (W (settingsOf sheet)) (ledgerOf p (entriesOf calls)))
 
 -- demand 3 of such a session asks nothing more
 abbrev pub StartDemand3 : Type 0
 StartDemand3 =
-    (sheet lent : List ℕ) (r : Started) (h : List ℕ) (calls : List Call) → Session sheet lent r h calls → Served (r .state) (entriesOf calls)
+    (sheet lent : List ℕ) (r : Started) (h : List ℕ) (calls : List Call) → Session sheet lent r h calls →
+    Served (r .state) (entriesOf calls)
 
 -- ---- a run of many events
 
