@@ -1,8 +1,11 @@
-# Two commands: `make run` does the main job on the example, `make test` runs every check.
-.PHONY: test run
+# `make run` does the main job on the example day, `make test` runs every check, `make bench` measures (it is no test).
+.PHONY: run test bench
+
+run:
+	@tools/run
 
 test:
 	@tools/test
 
-run:
-	@tools/run
+bench:
+	@tools/bench

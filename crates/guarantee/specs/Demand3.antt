@@ -112,15 +112,18 @@ loss c = 3 * C c / 4
 unfoldable pub bound : Settings → ℕ → ℤ
 bound c p = pos (budget c p) -ℤ pos ((c .count - 1) * loss c)
 
--- DEMAND 3: from any state that the event door takes, in every list of events, in every stretch of it, a partition that has a ready
--- thread allowed on the core after the opening tick and after each later event before the closing one is charged at least its bound.
--- The lengths are those of every value of the struct
+-- of the events and answers es, which follow the state s: in every stretch of them a partition that has a ready thread allowed on the core
+-- after the opening tick and after each later event before the closing one is charged at least its bound
+abbrev pub Served : State → List Entry → Type 0
+Served s es =
+    (before : List Entry) (opening : Entry) (within : List Entry) (closing : Entry) (later : List Entry) →
+    es ≡ before ++ (opening ∷ (within ++ (closing ∷ later))) →
+    Stretch (s .settings) opening within closing →
+    (p : ℕ) → p < s .settings .count →
+    ((n : ℕ) → n ≤ length within → waits s (before ++ (opening ∷ take n within)) p ≡ true) →
+    bound (s .settings) p ≤ℤ pos (chargedTo p (lastOf opening) (within ++ (closing ∷ [])))
+
+-- DEMAND 3: so it is from any state that the event door takes, in every list of events. The lengths are those of every value of the struct
 abbrev pub Demand3 : Type 0
 Demand3 =
-    (v : Saved) → Lengths (v .state) → refusedState (v .state) (v .history) ≡ 0 →
-    (events : List (List ℕ)) (before : List Entry) (opening : Entry) (within : List Entry) (closing : Entry) (later : List Entry) →
-    run v events ≡ before ++ (opening ∷ (within ++ (closing ∷ later))) →
-    Stretch (v .state .settings) opening within closing →
-    (p : ℕ) → p < v .state .settings .count →
-    ((n : ℕ) → n ≤ length within → waits (v .state) (before ++ (opening ∷ take n within)) p ≡ true) →
-    bound (v .state .settings) p ≤ℤ pos (chargedTo p (lastOf opening) (within ++ (closing ∷ [])))
+    (v : Saved) → Lengths (v .state) → refusedState (v .state) (v .history) ≡ 0 → (events : List (List ℕ)) → Served (v .state) (run v events)

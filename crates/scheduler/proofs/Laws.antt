@@ -148,7 +148,7 @@ module _ (s : State) (h b : List ℕ) where
   unfolding refused
   refused-by-state n e f = rw (← e, f)
 
-  answer-no : (r : Refusal) → refused s h b ≡ numberOf r → Answered (record { verdict = verdict.Refused r; state = s }) h (answer (saved s h) b)
+  pub answer-no : (r : Refusal) → refused s h b ≡ numberOf r → Answered (record { verdict = verdict.Refused r; state = s }) h (answer (saved s h) b)
   unfolding answer
   answer-no r e = rw (e, never-zero r) (record { line = refl; after = refl })
 

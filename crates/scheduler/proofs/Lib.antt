@@ -1,2 +1,4 @@
 pub mod Laws
 pub mod Longer
+pub mod Calls
+pub mod Runs
