@@ -11,12 +11,10 @@ import tempfile
 import time
 from pathlib import Path
 
+from records import record
+
 VECTORS = Path(__file__).resolve().parent / "vectors"
 SHEET = b"W 00 000004\nC 00 001000\nP 00 000000\nM 00 000000\nS 00 000050\nS 01 000050\n"
-
-
-def record(kind, stamp, thread=0, partition=0, priority=0, mask=0):
-    return bytes([kind, thread, partition, priority]) + (stamp % 2**32).to_bytes(4, "little") + bytes([mask, 0, 0, 0])
 
 
 def run(program, sheet, events, piece=0, memory=None):

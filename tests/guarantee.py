@@ -11,13 +11,11 @@ import sys
 import tempfile
 from pathlib import Path
 
+from records import record
+
 WINDOW, TICK = 100, 1000
 SHARES = (40, 10, 25, 25)
 WAITING, BOUND = 1, 7750
-
-
-def record(kind, stamp, thread=0, partition=0, priority=0, mask=0):
-    return bytes([kind, thread, partition, priority]) + (stamp % 2**32).to_bytes(4, "little") + bytes([mask, 0, 0, 0])
 
 
 def hostile(seed, rounds):
