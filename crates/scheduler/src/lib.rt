@@ -105,7 +105,7 @@ fn accept(s: State, history: &mut [u32], event: &[u8]) -> Answer
 }
 
 // An event on a state that is not refused: a run of many events tests soundness once, and then steps.
-pub fn step(s: State, history: &mut [u32], event: &[u8]) -> Answer
+fn step(s: State, history: &mut [u32], event: &[u8]) -> Answer
     requires { ⌜ refusedState s (now history) ≡ 0 ⌝ }
     ensures { λ r. ⌜ Answered r (now (history .exit)) (Step.answer (saved s (now (history .entry))) (now (event .entry))) ⌝ }
 {
