@@ -201,10 +201,36 @@ static void read(struct sapling_state s)
     }
 }
 
+/* The answers of the calls that take many records: three ticks, with room for two lines. */
+static void many(void)
+{
+    const char sheet[] = "W 00 000004\nC 00 001000\nP 00 000000\nM 00 000000\nS 00 000100\n";
+    const uint8_t ticks[3 * SAPLING_RECORD] = { [0] = 1, [12] = 1, [24] = 1 };
+    uint8_t lines[2 * SAPLING_RECORD + 1];
+    struct sapling_state s = sapling_start((const uint8_t *)sheet, sizeof sheet - 1, history, 4).state;
+    struct sapling_report report = sapling_run(s, history, 4, ticks, sizeof ticks, lines, sizeof lines);
+    same("run: refusal", 0, 0, report.refusal);
+    same("run: taken", 0, 2, report.taken);
+    same("run: slot", 0, 2, report.state.slot);
+    same("run: lines", 0, 0, memcmp(lines, "00 0 00 255\n00 0 00 255\n", 24));
+    report = sapling_run(s, history, 3, ticks, sizeof ticks, lines, sizeof lines);
+    same("run: refusal", 1, 7, report.refusal);
+    same("run: taken", 1, 0, report.taken);
+    only_there("run: state", s, report.state, 0, 0);
+    struct sapling_service service = sapling_desk((const uint8_t *)sheet, sizeof sheet - 1, history, 4, ticks, sizeof ticks, lines, sizeof lines);
+    same("desk: refusal", 0, 0, service.refusal);
+    same("desk: taken", 0, 2, service.taken);
+    service = sapling_desk((const uint8_t *)sheet, sizeof sheet - 2, history, 4, ticks, sizeof ticks, lines, sizeof lines);
+    same("desk: refusal", 1, 1, service.refusal);
+    same("desk: taken", 1, 0, service.taken);
+    same("desk: lines", 1, 0, memcmp(lines, "01 0 00 000\n00 0 00 255\n", 24));
+}
+
 int main(void)
 {
     struct sapling_state s = written();
     read(s);
+    many();
     printf("layout: the header's structs are the library's, state %zu bytes\n", sizeof s);
     return 0;
 }

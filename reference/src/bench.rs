@@ -1,14 +1,15 @@
 //! Events a second of the proved scheduler and of the reference: the same
 //! streams, each behind a C function, in turns, the best of many batches.
 //!
-//!   bench [rounds]     batches a row, 200 if nothing is said
+//!   bench [rounds]     batches a row, 300 if nothing is said
 //!
 //! A row is a sheet of so many partitions with so many ready threads and a
 //! window of W ticks. Its stream goes round through a tick, a block, a ready
 //! and a new priority, a quarter of a tick apart, and each event is accepted.
 //! Both start a batch from the same point, after two windows. What is timed
 //! is the call, or the calls: one `run` over all records, or an `event` for
-//! each.
+//! each. All rows take their turns, a few batches at a time, so that a slow
+//! while of the machine falls on all of them.
 
 mod proved;
 
@@ -110,14 +111,14 @@ fn put(events: &mut Vec<u8>, fields: [u8; 4], stamp: u32, mask: u8) {
     events.extend([mask, 0, 0, 0]);
 }
 
-/// The best times of a batch: proved, reference.
-#[derive(Clone, Copy)]
+/// The best times of a batch, proved and reference.
 struct Best(Duration, Duration);
 
-impl Best {
-    const NONE: Best = Best(Duration::MAX, Duration::MAX);
+const NONE: Best = Best(Duration::MAX, Duration::MAX);
 
-    fn nanoseconds(&self, events: usize) -> (f64, f64) {
+impl Best {
+    /// Nanoseconds an event.
+    fn each(&self, events: usize) -> (f64, f64) {
         let each = |time: Duration| time.as_nanos() as f64 / events as f64;
         (each(self.0), each(self.1))
     }
@@ -130,136 +131,170 @@ fn timed<T>(best: &mut Duration, work: impl FnOnce() -> T) -> T {
     done
 }
 
-/// Nanoseconds an event: through `run`, through single events.
+/// A row: the point that its batches start from, in both schedulers, and the
+/// best times so far.
 struct Row {
-    run: (f64, f64),
-    event: (f64, f64),
+    partitions: u8,
+    threads: u8,
+    window: u32,
+    batch: Vec<u8>,
+    state: proved::State,
+    history: Vec<u32>,
+    scheduler: Scheduler,
+    run: Best,
+    event: Best,
 }
 
-fn row(partitions: u8, threads: u8, window: u32, rounds: usize) -> Row {
-    let Stream { sheet, lead, batch } = stream(partitions, threads, window);
-    let mut lines = vec![0; lead.len()];
-    let mut other = lines.clone();
-    // The point that batches start from, in both.
-    let mut history = vec![0; usize::from(partitions) * window as usize];
-    let opening = proved::start(&sheet, &mut history);
-    let state = proved::run(opening.state, &mut history, &lead, &mut lines).state;
-    let Ok(mut scheduler) = Scheduler::start(&sheet) else {
-        panic!("the sheet is refused");
-    };
-    scheduler.run(&lead, &mut other);
-    assert!(lines == other && lines.chunks(RECORD).all(|line| line[..2] == *b"00"));
-    lines.resize(batch.len(), 0);
-    other.resize(batch.len(), 0);
-
-    let mut whole = Best::NONE;
-    let mut single = Best::NONE;
-    let mut work = history.clone();
-    let singles = &batch[..EVENTS * RECORD];
-    for _ in 0..rounds {
-        work.copy_from_slice(&history);
-        let report = timed(&mut whole.0, || {
-            proved::run(black_box(state), &mut work, &batch, &mut lines)
-        });
-        assert!(report.refusal == 0 && report.taken == RUN);
-        let mut again = scheduler.clone();
-        timed(&mut whole.1, || {
-            reference_run(
-                &mut again,
-                batch.as_ptr(),
-                batch.len(),
-                other.as_mut_ptr(),
-                other.len(),
-            )
-        });
-        assert!(lines == other);
-
-        work.copy_from_slice(&history);
-        let mut kept = state;
-        timed(&mut single.0, || {
-            for event in singles.chunks_exact(RECORD) {
-                let reply = proved::event(kept, &mut work, event);
-                black_box(reply.numbers);
-                kept = reply.state;
-            }
-        });
-        let mut again = scheduler.clone();
-        timed(&mut single.1, || {
-            for event in singles.chunks_exact(RECORD) {
-                black_box(reference_event(&mut again, event.as_ptr(), event.len()));
-            }
-        });
+impl Row {
+    fn new((partitions, threads, window): (u8, u8, u32)) -> Row {
+        let Stream { sheet, lead, batch } = stream(partitions, threads, window);
+        let mut lines = vec![0; lead.len()];
+        let mut other = lines.clone();
+        let mut history = vec![0; usize::from(partitions) * window as usize];
+        let opening = proved::start(&sheet, &mut history);
+        let state = proved::run(opening.state, &mut history, &lead, &mut lines).state;
+        let Ok(mut scheduler) = Scheduler::start(&sheet) else {
+            panic!("the sheet is refused");
+        };
+        scheduler.run(&lead, &mut other);
+        assert!(lines == other && lines.chunks(RECORD).all(|line| line[..2] == *b"00"));
+        Row {
+            partitions,
+            threads,
+            window,
+            batch,
+            state,
+            history,
+            scheduler,
+            run: NONE,
+            event: NONE,
+        }
     }
-    Row {
-        run: whole.nanoseconds(RUN),
-        event: single.nanoseconds(EVENTS),
+
+    /// A few batches more.
+    fn measure(&mut self, batches: usize) {
+        let mut lines = vec![0; self.batch.len()];
+        let mut other = lines.clone();
+        let mut history = self.history.clone();
+        let singles = &self.batch[..EVENTS * RECORD];
+        for _ in 0..batches {
+            history.copy_from_slice(&self.history);
+            let report = timed(&mut self.run.0, || {
+                proved::run(black_box(self.state), &mut history, &self.batch, &mut lines)
+            });
+            assert!(report.refusal == 0 && report.taken == RUN);
+            let mut scheduler = self.scheduler.clone();
+            timed(&mut self.run.1, || {
+                reference_run(
+                    &mut scheduler,
+                    self.batch.as_ptr(),
+                    self.batch.len(),
+                    other.as_mut_ptr(),
+                    other.len(),
+                )
+            });
+            assert!(lines == other);
+
+            history.copy_from_slice(&self.history);
+            let mut state = self.state;
+            timed(&mut self.event.0, || {
+                for event in singles.chunks_exact(RECORD) {
+                    let reply = proved::event(state, &mut history, event);
+                    black_box(reply.numbers);
+                    state = reply.state;
+                }
+            });
+            let mut scheduler = self.scheduler.clone();
+            timed(&mut self.event.1, || {
+                for event in singles.chunks_exact(RECORD) {
+                    black_box(reference_event(&mut scheduler, event.as_ptr(), event.len()));
+                }
+            });
+        }
+    }
+
+    fn print(&self) {
+        let (run, event) = (self.run.each(RUN), self.event.each(EVENTS));
+        println!(
+            "| {} | {} | {} | {:.1} | {:.1} | {:.2} | {:.2} | {:.1} | {:.3} |",
+            self.partitions,
+            self.threads,
+            self.window,
+            1000.0 / run.0,
+            1000.0 / run.1,
+            run.1 / run.0,
+            1000.0 / event.0,
+            1000.0 / event.1,
+            event.1 / event.0,
+        );
     }
 }
 
-fn print(partitions: u8, threads: u8, window: u32, row: &Row) {
-    let Row { run, event } = row;
-    println!(
-        "| {partitions} | {threads} | {window} | {:.1} | {:.1} | {:.2} | {:.2} | {:.1} | {:.3} |",
-        1000.0 / run.0,
-        1000.0 / run.1,
-        run.1 / run.0,
-        1000.0 / event.0,
-        1000.0 / event.1,
-        event.1 / event.0,
-    );
-}
-
-fn grows(what: &str, rounds: usize, points: &[(u8, u8, u32)]) {
+/// Prints how the time of an event grows with one thing.
+fn grows(what: &str, rows: &[Row], number: impl Fn(&Row) -> u32) {
     println!();
     println!("| {what} | run, ns | event, ns | reference run, ns |");
     println!("|---|---|---|---|");
-    for &(partitions, threads, window) in points {
-        let Row { run, event } = row(partitions, threads, window, rounds);
-        let at = match what.split(' ').next() {
-            Some("threads") => u32::from(threads),
-            Some("partitions") => u32::from(partitions),
-            _ => window,
-        };
-        println!("| {at} | {:.0} | {:.0} | {:.0} |", run.0, event.0, run.1);
+    for row in rows {
+        let (run, event) = (row.run.each(RUN), row.event.each(EVENTS));
+        println!(
+            "| {} | {:.0} | {:.0} | {:.0} |",
+            number(row),
+            run.0,
+            event.0,
+            run.1
+        );
     }
 }
 
 fn main() {
-    let rounds = std::env::args().nth(1).map_or(200, |word| {
+    let rounds: usize = std::env::args().nth(1).map_or(300, |word| {
         word.parse().expect("bench [rounds]: a whole number")
     });
+    let mut points = Vec::new();
+    for partitions in [1, 4, 16] {
+        for threads in [1, 8, 64] {
+            for window in [4, 100, 400] {
+                points.push((partitions, threads, window));
+            }
+        }
+    }
+    let table = points.len();
+    points.extend([1, 2, 4, 8, 16, 32, 64].map(|threads| (4, threads, 100)));
+    let threads = points.len();
+    points.extend([1, 2, 4, 8, 16].map(|partitions| (partitions, 16, 100)));
+    let partitions = points.len();
+    points.extend([4, 25, 50, 100, 200, 400].map(|window| (4, 16, window)));
+
+    let mut rows: Vec<Row> = points.into_iter().map(Row::new).collect();
+    for _ in 0..rounds.div_ceil(10) {
+        for row in &mut rows {
+            row.measure(10);
+        }
+    }
+
     println!(
         "Millions of events a second, and the proved scheduler's as a part of the reference's:"
     );
     println!();
     println!("| partitions | ready threads | W | run: proved | reference | ratio | event: proved | reference | ratio |");
     println!("|---|---|---|---|---|---|---|---|---|");
-    for partitions in [1, 4, 16] {
-        for threads in [1, 8, 64] {
-            for window in [4, 100, 400] {
-                let row = row(partitions, threads, window, rounds);
-                print(partitions, threads, window, &row);
-            }
-        }
+    for row in &rows[..table] {
+        row.print();
     }
     println!();
     println!("Nanoseconds an event, as one thing grows:");
-    let threads = [1, 2, 4, 8, 16, 32, 64];
-    let partitions = [1, 2, 4, 8, 16];
-    let windows = [4, 25, 50, 100, 200, 400];
     grows(
         "threads (4 partitions, W 100)",
-        rounds,
-        &threads.map(|t| (4, t, 100)),
+        &rows[table..threads],
+        |row| row.threads.into(),
     );
     grows(
         "partitions (16 threads, W 100)",
-        rounds,
-        &partitions.map(|p| (p, 16, 100)),
+        &rows[threads..partitions],
+        |row| row.partitions.into(),
     );
-    grows(
-        "W (4 partitions, 16 threads)",
-        rounds,
-        &windows.map(|w| (4, 16, w)),
-    );
+    grows("W (4 partitions, 16 threads)", &rows[partitions..], |row| {
+        row.window
+    });
 }

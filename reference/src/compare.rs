@@ -410,7 +410,7 @@ fn compare(many: u64, first: u64) -> Result<(), ExitCode> {
     let Comparison { reach, beside, .. } = comparison;
     print!("{reach}");
     println!(
-        "of these, {} by single events and {} by runs of a few records; changed states: {} refused, {} sound",
+        "again by single events: {}; by runs of a few records: {}; states changed on purpose: {} refused, {} still sound",
         beside.events, beside.records, beside.damaged, beside.sound
     );
     let complete = reach.complete() && reach.refusals.iter().all(|&count| count > 0);
