@@ -1,7 +1,7 @@
 #!/usr/bin/env python3
 """Document 01's example of the guarantee, on a hostile list of events: W 100, C 1000, four partitions, share 10: at least 7,750 cycles
 in 200 ticks. The partition with 10 percent waits throughout, at the lowest priority; the others wake, sleep and change priority so as to
-run past their budgets as far as they can. What was charged is worked out here from the events and the printed lines alone.
+run past their budgets. What was charged is worked out here from the events and the printed lines alone.
 
     tests/guarantee.py DESK
 """
@@ -19,7 +19,7 @@ WAITING, BOUND = 1, 7750
 
 
 def hostile(seed, rounds):
-    """A list of events in which the waiting partition is kept back as long as the rules allow. In each round the others sleep for ten ticks of
+    """A list of events that works against the waiting partition; it is not the worst there is. In each round the others sleep for ten ticks of
     double length, so that it runs far past its budget at the end of a window; then they wake above it for more than two windows of full
     ticks, and sleep, wake and change priority at odd moments, so that each runs past its own budget too."""
     draw = random.Random(seed)
