@@ -174,7 +174,8 @@ impl Comparison {
             }
         };
         let rows = settings.partitions * settings.window.0 as usize;
-        let short = self.below(rows);
+        // One number too short, or any number of them.
+        let short = [rows - 1, self.below(rows)][self.below(2)];
         let opening = proved::start(&case.sheet, &mut self.history[..short]);
         check(
             opening.refusal == 7 && opening.state == ZEROS,
@@ -329,7 +330,7 @@ impl Comparison {
                 let row = place / state.settings.window as usize;
                 state.used[row] = state.used[row].wrapping_add(by);
             }
-            _ => history.truncate(place),
+            _ => history.truncate([history.len() - 1, place][self.below(2)]),
         }
     }
 }
