@@ -30,7 +30,7 @@ struct Turn {
 fn serve_chunk(s: State, history: &mut [u32], events: &mut [u8], out: &mut [u8]) -> Turn {
     let n = io::read_full(STDIN_FILENO, events);
     let full = n == events.len();
-    let ended = scheduler::run(s, history, &events[..n], out);
+    let ended = runs::run(s, history, &events[..n], out);
     let written = 12 * ended.taken;
     let printed = io::write_all(STDOUT_FILENO, &out[..written]);
     let state = ended.state;
@@ -61,7 +61,7 @@ fn main() {
     let n = read_sheet(&mut sheet);
     // Room for the largest history: 16 partitions and 400 ticks.
     let mut history = [0u32; 6400];
-    let started = scheduler::start(&sheet[..n], &mut history);
+    let started = startup::start(&sheet[..n], &mut history);
     let outcome = started.outcome;
     match outcome {
         Outcome::Refused(refusal) => {

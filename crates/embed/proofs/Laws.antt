@@ -16,11 +16,11 @@ use Rattle.model.specs.Step.{Saved, saved}
 use Rattle.model.specs.Run.{fresh}
 use Rattle.model.specs.Doors as Doors
 use Rattle.model.specs.Doors.{zeroState, refusedStart}
-use Rattle.scheduler.specs.Answers.{Begun}
-use Rattle.scheduler.specs.Runs.{Ran, Finished, ran, linesAfter}
-use Rattle.scheduler.specs.declared.Started.{Started}
-use Rattle.scheduler.specs.declared.Ended.{Ended}
-use Rattle.scheduler.proofs.Longer.{text-length}
+use Rattle.startup.specs.Answers.{Begun}
+use Rattle.runs.specs.Runs.{Ran, Finished, ran, linesAfter}
+use Rattle.startup.specs.declared.Started.{Started}
+use Rattle.runs.specs.declared.Ended.{Ended}
+use Rattle.runs.proofs.Longer.{text-length}
 use Rattle.embed.specs.Interface.{deskRan, Served, refusalWritten, deskLines}
 
 -- ---- the line of a refusal

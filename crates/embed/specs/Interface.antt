@@ -12,7 +12,7 @@ use Rattle.model.specs.Step as Step
 use Rattle.model.specs.Run.{fresh}
 use Rattle.model.specs.Doors as Doors
 use Rattle.model.specs.Doors.{zeroState, refusedStart}
-use Rattle.scheduler.specs.Runs.{Ran, ran, linesAfter}
+use Rattle.runs.specs.Runs.{Ran, ran, linesAfter}
 use Rattle.embed.specs.declared.Numbers.{Numbers}
 use Rattle.embed.specs.declared.Opening.{Opening}
 use Rattle.embed.specs.declared.Reply.{Reply}

@@ -7,7 +7,7 @@ ghost use Rattle.model.specs.Answers.{lineOf};
 ghost use Rattle.model.specs.Step as Step;
 ghost use Rattle.model.specs.Step.{saved};
 ghost use Rattle.model.specs.Doors as Doors;
-ghost use Rattle.scheduler.specs.Runs.{ran, linesAfter};
+ghost use Rattle.runs.specs.Runs.{ran, linesAfter};
 ghost use Rattle.embed.specs.Interface.{numbersOf, Opened, Replied, Reported, refusalWritten, Served, deskLines};
 use model::State;
 use model::Verdict;
@@ -92,7 +92,7 @@ fn verdict_numbers(verdict: Verdict) -> Numbers
 pub extern "C" fn sapling_start(sheet: &[u8], history: &mut [u32]) -> Opening
     ensures { λ r. ⌜ Opened r (now (history .exit)) (Doors.start (now (sheet .entry)) (now (history .entry))) ⌝ }
 {
-    let started = scheduler::start(sheet, history);
+    let started = startup::start(sheet, history);
     let outcome = started.outcome;
     let state = started.state;
     Opening {
@@ -129,7 +129,7 @@ pub extern "C" fn sapling_run(
         × (now (out .exit) ≡ linesAfter (saved s (now (history .entry))) (now (events .entry)) (now (out .entry)))
         ⌝ }
 {
-    let ended = scheduler::run(s, history, events, out);
+    let ended = runs::run(s, history, events, out);
     let outcome = ended.outcome;
     let state = ended.state;
     Report {
@@ -165,7 +165,7 @@ pub extern "C" fn sapling_desk(
         × (now (out .exit) ≡ deskLines (now (sheet .entry)) (now (history .entry)) (now (events .entry)) (now (out .entry)))
         ⌝ }
 {
-    let started = scheduler::start(sheet, history);
+    let started = startup::start(sheet, history);
     let outcome = started.outcome;
     match outcome {
         Outcome::Refused(refusal) => {
@@ -177,7 +177,7 @@ pub extern "C" fn sapling_desk(
         }
         Outcome::Accepted => {
             let state = started.state;
-            let ended = scheduler::run(state, history, events, out);
+            let ended = runs::run(state, history, events, out);
             let end = ended.outcome;
             Service {
                 refusal: outcome_number(end),

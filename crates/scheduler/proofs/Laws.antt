@@ -1,73 +1,39 @@
--- What the doors' steps need of an accepted event, and their answers as the model's.
+-- What the event door's steps need of an accepted event, and its answers as the model's.
 use mathlib.Core.Logic.{_≢_}
 use mathlib.Core.Path.{_≡_, refl, sym, ap, subst, _∙_}
 use Prim.Native.Nat.{ℕ, _≤_, _<_}
-use mathlib.Core.Bool.{Bool, true, false}
+use mathlib.Core.Bool.{false}
 use mathlib.Core.List.{List, [], _∷_, _++_}
 use lib.ListN.{length, length-append}
 use lib.Seq.{length-take-le}
 use lib.Dec.{eqb}
 use native.Mathlib.Omega.{arith}
-use borrow.Author.Tests.{eq-eqb, ne-eqb, lt-ltb, le-ltb}
+use borrow.Author.Tests.{ne-eqb}
 use Rattle.refusals.specs.Refusals.{numberOf, outcomeOf}
 use Rattle.refusals.specs.declared.Refusal.{Refusal}
-use Rattle.refusals.specs.declared.Refusal.the-variants.{Buffer}
 use Rattle.refusals.specs.declared.Outcome.{Outcome}
-use Rattle.refusals.specs.declared.Outcome.the-variants.{Accepted, Refused}
+use Rattle.refusals.specs.declared.Outcome.the-variants.{Refused}
 use Rattle.refusals.proofs.Laws.{never-zero}
-use Rattle.sheet.specs.declared.Settings.{Settings}
-use Rattle.sheet.specs.Sheet.{settingsOf, refusedSheet}
-use Rattle.model.specs.State.{queueOf, wanted, thread}
+use Rattle.model.specs.State.{queueOf, wanted}
 use Rattle.model.specs.Policy.{decide}
 use Rattle.model.specs.Typed.{Lengths}
 use Rattle.model.specs.Event
 use Rattle.model.specs.Event.{kindOf, threadOf, stampOf, refusedState, refusedEvent, refused}
 use Rattle.model.specs.Facts.{Settled}
 use Rattle.model.specs.Facts as Facts
-use Rattle.model.specs.Step.{Saved, saved, withRunning, charge, moveSlot, restart, act, settle, apply, answer, zeroRows}
-use Rattle.model.specs.Step as Step
-use Rattle.model.specs.Run.{freshState}
-use Rattle.model.specs.Doors as Doors
-use Rattle.model.specs.Answers.{decidedOf, lineOf, answerLine}
+use Rattle.model.specs.Step.{Saved, saved, withRunning, charge, moveSlot, restart, act, settle, apply, answer}
+use Rattle.model.specs.Answers.{decidedOf}
 use Rattle.model.specs.declared.State.{State}
 use Rattle.model.specs.declared.Decision.{Decision}
-use Rattle.model.specs.declared.Verdict.{Verdict}
 use Rattle.model.specs.declared.Verdict.the-variants as verdict
-use Rattle.model.proofs.Accepted.{fit-of, of-fit, accepted-of}
 use Rattle.guarantee.proofs.Acts.{act-settled}
 use Rattle.guarantee.proofs.Kept.{charge-settled, length-charge}
 use Rattle.guarantee.proofs.Applied.{Left, named, apply-left}
-use Rattle.guarantee.proofs.Answered.{Good, good-answer}
 use Rattle.events.specs.Kinds.{Able}
 use Rattle.events.proofs.Laws.{act-ready}
 use Rattle.policy.specs.Needs.{Bounded}
 use Rattle.policy.proofs.Bounds.{settled-bounded}
-use Rattle.scheduler.specs.Answers.{Answered, Begun}
-use Rattle.scheduler.specs.declared.Answer.{Answer}
-use Rattle.scheduler.specs.declared.Started.{Started}
-
--- ---- start
-
-module _ (sheet h : List ℕ) (r : Started) where
-  pub start-refused : (o : Outcome) (f : Refusal) → o ≡ Refused f → outcomeOf o ≡ refusedSheet sheet → (r .outcome ≡ Refused f) × (r .state ≡ Doors.zeroState)
-      → Begun r h (Doors.start sheet h)
-  unfolding Doors.start Doors.refusedStart
-  start-refused o f e n (a, z) =
-      let k : refusedSheet sheet ≡ numberOf f = sym n ∙ ap outcomeOf e in
-      rw (k, never-zero f, never-zero f) (record { refusal = ap outcomeOf a; saved = ap (λ (s : State). saved s h) z })
-
-  pub start-short : refusedSheet sheet ≡ 0 → length h < wanted (freshState (settingsOf sheet)) → (r .outcome ≡ Refused Buffer) × (r .state ≡ Doors.zeroState)
-      → Begun r h (Doors.start sheet h)
-  unfolding Doors.start Doors.refusedStart
-  start-short e b (a, z) =
-      rw (e, lt-ltb (length h) (wanted (freshState (settingsOf sheet))) b) (record { refusal = ap outcomeOf a; saved = ap (λ (s : State). saved s h) z })
-
-pub start-fresh : (sheet h h′ : List ℕ) (s : State) (c : Settings) → refusedSheet sheet ≡ 0 → c ≡ settingsOf sheet → wanted (freshState c) ≤ length h
-    → h′ ≡ zeroRows (freshState c) h → s ≡ freshState c → Begun (record { outcome = Accepted; state = s }) h′ (Doors.start sheet h)
-unfolding Doors.start Doors.refusedStart
-start-fresh sheet h h′ s c e i b f g =
-    let b′ : wanted (freshState (settingsOf sheet)) ≤ length h = rw (← i) b in
-    rw (e, le-ltb (length h) (wanted (freshState (settingsOf sheet))) b′) (record { refusal = refl; saved = rw (g, f, i) })
+use Rattle.scheduler.specs.Answers.{Answered}
 
 -- ---- after the charge of an event that is no resume
 
@@ -167,12 +133,3 @@ module _ (s : State) (h b : List ℕ) where
     line = rw (e, ← f, ← g);
     after = rw (e, ← f, ← g);
   }
-
--- ---- soundness is kept
-
--- after an answer the next event needs no new test
-pub stays-sound : (s : State) (h b : List ℕ) → Lengths s → refusedState s h ≡ 0 → (r : Answer) (h′ : List ℕ) → Answered r h′ (answer (saved s h) b) → refusedState (r .state) h′ ≡ 0
-stays-sound s h b len e r h′ q =
-    let y = answer (saved s h) b .after in
-    let g : Good (s .settings) y = good-answer (s .settings) (saved s h) b (record { fit = fit-of s h e; lengths = len; settings = refl }) in
-    subst (λ (z : Saved). refusedState (z .state) (z .history) ≡ 0) (sym (q .after)) (of-fit (y .state) (y .history) (g .fit))

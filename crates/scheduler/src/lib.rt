@@ -1,77 +1,20 @@
-// The doors: start, event and run. None asks anything of its caller: whatever is given, each does its work or answers by a number, and a
-// refusal leaves the state and all lent memory as they were.
+// The event door. `event` asks nothing of its caller: whatever is given, it does its work or answers by a number, and a refusal leaves the
+// state and all lent memory as they were. `step` is for a caller that knows its state to be sound, and has to prove it.
 ghost use mathlib.Core.Path.{_≡_};
 ghost use Rattle.model.specs.Event.{refusedState, refused};
 ghost use Rattle.model.specs.Facts.{Accepted};
 ghost use Rattle.model.specs.Step as Step;
 ghost use Rattle.model.specs.Step.{saved};
-ghost use Rattle.model.specs.Doors as Doors;
-ghost use Rattle.scheduler.specs.Answers.{Answered, Begun};
+ghost use Rattle.scheduler.specs.Answers.{Answered};
 use model::State;
 use model::Verdict;
 use refusals::Outcome;
-use refusals::Refusal;
-
-pub mod fresh;
-pub mod streams;
-
-pub use streams::run;
-
-// What start answers: the fresh state, or zeros beside a refusal.
-pub struct Started {
-    pub outcome: Outcome,
-    pub state: State,
-}
 
 // What the event door answers: the decision or the refusal, and the state for the next event.
 pub struct Answer {
     pub verdict: Verdict,
     pub state: State,
 }
-
-// What a run answers: how many records were taken, each with its line, and the state after them. Where the state is refused, none.
-pub struct Ended {
-    pub outcome: Outcome,
-    pub taken: usize,
-    pub state: State,
-}
-
-// ---- start
-
-// A fresh start from a sheet's bytes: the rows of the lent history become zero, and what lies after them stays.
-pub fn start(sheet: &[u8], history: &mut [u32]) -> Started
-    ensures { λ r. ⌜ Begun r (now (history .exit)) (Doors.start (now (sheet .entry)) (now (history .entry))) ⌝ }
-{
-    let reading = sheet::read_sheet(sheet);
-    let settings = reading.settings;
-    let outcome = reading.outcome;
-    match outcome {
-        Outcome::Refused(refusal) => refuse_start(refusal),
-        Outcome::Accepted => {
-            let rows = (settings.count as usize) * (settings.window.0 as usize);
-            if history.len() < rows {
-                return refuse_start(Refusal::Buffer);
-            }
-            history::clear_rows(history, rows);
-            Started {
-                outcome: Outcome::Accepted,
-                state: fresh::fresh_state(settings),
-            }
-        }
-    }
-}
-
-// Zeros beside the refusal of a start.
-fn refuse_start(refusal: Refusal) -> Started
-    ensures { λ r. ⌜ (r .outcome ≡ Outcome.Refused refusal) × (r .state ≡ Doors.zeroState) ⌝ }
-{
-    Started {
-        outcome: Outcome::Refused(refusal),
-        state: fresh::zero_state(),
-    }
-}
-
-// ---- event
 
 // Steps 1 and 2 of an accepted event: the charge and the action of its kind; or a resume.
 fn apply(s: State, history: &mut [u32], event: &[u8]) -> State
@@ -105,7 +48,7 @@ fn accept(s: State, history: &mut [u32], event: &[u8]) -> Answer
 }
 
 // An event on a state that is not refused: a run of many events tests soundness once, and then steps.
-fn step(s: State, history: &mut [u32], event: &[u8]) -> Answer
+pub fn step(s: State, history: &mut [u32], event: &[u8]) -> Answer
     requires { ⌜ refusedState s (now history) ≡ 0 ⌝ }
     ensures { λ r. ⌜ Answered r (now (history .exit)) (Step.answer (saved s (now (history .entry))) (now (event .entry))) ⌝ }
 {

@@ -1,6 +1,6 @@
 -- A run, one record more: its records, its state and history, its lines.
 use mathlib.Core.Path.{_≡_, refl, sym, ap, ap₂, _∙_}
-use Prim.Native.Nat.{ℕ, suc, _+_, _-_, _*_, _/_, _≤_, _<_, min}
+use Prim.Native.Nat.{ℕ, suc, _+_, _-_, _*_, _/_, _≤_, min}
 use mathlib.Core.Bool.{Bool, true, false, cond}
 use mathlib.Core.List.{List, [], _∷_, _++_, map, append-assoc, append-nil}
 use lib.ListN.{length, take, drop, length-append, length-take, length-drop, drop-of-length-le}
@@ -24,7 +24,7 @@ use Rattle.model.specs.declared.State.{State}
 use Rattle.model.specs.Run.{Entry, run, after}
 use Rattle.model.specs.Answers.{Line, answerLine, textOf}
 use Rattle.guarantee.proofs.Answered.{Good, good-answer}
-use Rattle.scheduler.specs.Runs.{recordCount, recordAt, recordsOf, linesOf, Ran, Finished, takenBy, ran, linesAfter}
+use Rattle.runs.specs.Runs.{recordCount, recordAt, recordsOf, linesOf, Ran, Finished, takenBy, ran, linesAfter}
 
 -- ---- records
 

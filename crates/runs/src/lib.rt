@@ -1,4 +1,5 @@
-// A run of many events: soundness is tested once, and then each record is a step and a line.
+// The run door: many events at once. Soundness is tested once, and then each record is a step and a line. It asks nothing of its caller, and
+// a refusal leaves the state and all lent memory as they were.
 ghost use mathlib.Core.Path.{_≡_};
 ghost use mathlib.Core.List.{_++_};
 ghost use Prim.Native.Nat.{_*_, _≤_, min};
@@ -6,10 +7,16 @@ ghost use lib.ListN.{length, drop};
 ghost use Rattle.model.specs.Event.{refusedState};
 ghost use Rattle.model.specs.Step.{saved};
 ghost use Rattle.model.specs.Run as Run;
-ghost use Rattle.scheduler.specs.Runs.{recordCount, recordsOf, linesOf, Finished, ran, linesAfter};
-use super::Ended;
+ghost use Rattle.runs.specs.Runs.{recordCount, recordsOf, linesOf, Finished, ran, linesAfter};
 use model::State;
 use refusals::Outcome;
+
+// What a run answers: how many records were taken, each with its line, and the state after them. Where the state is refused, none.
+pub struct Ended {
+    pub outcome: Outcome,
+    pub taken: usize,
+    pub state: State,
+}
 
 fn least(a: usize, b: usize) -> usize
     ensures { λ r. ⌜ r ≡ min a b ⌝ }
@@ -34,7 +41,7 @@ fn steps(s: State, history: &mut [u32], events: &[u8], out: &mut [u8], n: usize)
         let at = 12 * i;
         let stop = at + 12;
         let end = least(stop, events.len());
-        let answer = super::step(t, history, &events[at..end]);
+        let answer = scheduler::step(t, history, &events[at..end]);
         let verdict = answer.verdict;
         let line = lines::line(verdict);
         bytes::copy(&line, &mut out[at..stop]);

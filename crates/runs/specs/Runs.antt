@@ -11,7 +11,7 @@ use Rattle.model.specs.Event.{refusedState}
 use Rattle.model.specs.Step.{Saved, saved}
 use Rattle.model.specs.Run.{Entry, run, after}
 use Rattle.model.specs.Answers.{answerLine, textOf}
-use Rattle.scheduler.specs.declared.Ended.{Ended}
+use Rattle.runs.specs.declared.Ended.{Ended}
 
 -- the records of a stream: whole ones of twelve bytes, and what is left of a cut one at the end
 abbrev pub recordCount : List ℕ → ℕ

@@ -3,10 +3,10 @@ use native.Mathlib.Omega.{arith}
 use denote.Ref.{now}
 use Rattle.refusals.specs.Refusals.{outcomeOf}
 use Rattle.model.specs.Event.{refusedState}
-use Rattle.scheduler.proofs.Longer.{run-refused, run-taken}
+use Rattle.runs.proofs.Longer.{run-refused, run-taken}
 use borrow.Author.Needs.{needs}
-use Rattle.scheduler.proofs.streams.run.Statement.{statement}
-use Rattle.scheduler.proofs.streams.run.Tie as tie
+use Rattle.runs.proofs.run.Statement.{statement}
+use Rattle.runs.proofs.run.Tie as tie
 
 -- the state is not refused
 fine : (c : tie.After-enum-told) → refusedState (c .before .before .before .before .before .before .before .args .s) (now (c .before .before .before .before .before .before .before .args .history)) ≡ 0

@@ -23,11 +23,12 @@ use Rattle.model.specs.declared.Verdict.the-variants as verdict
 use Rattle.guarantee.specs.Demand3.{accepted, Served}
 use Rattle.guarantee.specs.Ledger.{ledgerOf}
 use Rattle.guarantee.specs.Account.{Accounted, decisionsFrom}
-use Rattle.scheduler.specs.Answers.{Answered, Begun}
-use Rattle.scheduler.specs.Runs.{recordsOf, Finished, ran, linesAfter}
+use Rattle.startup.specs.Answers.{Begun}
+use Rattle.scheduler.specs.Answers.{Answered}
+use Rattle.runs.specs.Runs.{recordsOf, Finished, ran, linesAfter}
 use Rattle.scheduler.specs.declared.Answer.{Answer}
-use Rattle.scheduler.specs.declared.Started.{Started}
-use Rattle.scheduler.specs.declared.Ended.{Ended}
+use Rattle.startup.specs.declared.Started.{Started}
+use Rattle.runs.specs.declared.Ended.{Ended}
 
 -- ---- calls of the event door
 

@@ -34,10 +34,10 @@ use Rattle.guarantee.proofs.Demand3.{demand3}
 use Rattle.guarantee.proofs.Account.{account, answers}
 use Rattle.guarantee.proofs.Totals.{totals}
 use Rattle.guarantee.proofs.Fresh.{start-good}
 use Rattle.scheduler.specs.Answers.{Answered}
-use Rattle.scheduler.specs.Calls.{Call, Calls, leftBy, bytesOf, chosenBy, entryOf, entriesOf, decides, acceptedCalls, Session}
-use Rattle.scheduler.specs.Calls.{AcceptedIsDecided, CallsAreRun, DoorDemand3, DoorAccount, DoorAnswers, DoorTotals, StartDemand3}
-use Rattle.scheduler.specs.declared.Started.{Started}
+use Rattle.sessions.specs.Calls.{Call, Calls, leftBy, bytesOf, chosenBy, entryOf, entriesOf, decides, acceptedCalls, Session}
+use Rattle.sessions.specs.Calls.{AcceptedIsDecided, CallsAreRun, DoorDemand3, DoorAccount, DoorAnswers, DoorTotals, StartDemand3}
+use Rattle.startup.specs.declared.Started.{Started}
 
 -- ---- calls are a run
 

@@ -10,10 +10,10 @@ use Rattle.sheet.specs.Settings.{W}
 use Rattle.sheet.specs.Sheet.{settingsOf, refusedSheet}
 use Rattle.sheet.specs.declared.Settings.{Settings}
 use Rattle.sheet.proofs.Sheets.{settings-read}
-use Rattle.scheduler.proofs.Laws.{start-refused, start-short, start-fresh}
+use Rattle.startup.proofs.Laws.{start-refused, start-short, start-fresh}
 use borrow.Author.Needs.{needs}
-use Rattle.scheduler.proofs.start.Statement.{statement}
-use Rattle.scheduler.proofs.start.Tie as tie
+use Rattle.startup.proofs.start.Statement.{statement}
+use Rattle.startup.proofs.start.Tie as tie
 
 read-sheet-requires : tie.Need-read-sheet-requires
 read-sheet-requires c κs = search needs
