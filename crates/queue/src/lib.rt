@@ -2,13 +2,11 @@
 use model::State;
 use model::Thread;
 ghost use mathlib.Core.Path.{_≡_};
-ghost use mathlib.Core.Bool.{not};
+ghost use mathlib.Core.Bool.{cond};
 ghost use mathlib.Core.List.{_++_, _∷_, []};
 ghost use Prim.Native.Nat.{_<_, min};
-ghost use lib.Dec.{eqb};
 ghost use lib.ListN.{take};
 ghost use Rattle.lists.specs.Lists;
-ghost use Rattle.lists.specs.Lists.{consIf};
 ghost use Rattle.model.specs.State.{queueOf};
 ghost use Rattle.model.specs.Step.{leaves, joins, goes};
 ghost use Rattle.queue.specs.Entries.{entriesOf, queueFrom, Room};
@@ -41,34 +39,36 @@ fn append(q: Queue, t: u8) -> Queue
     r
 }
 
-// The same for an entry, unless it is the thread that leaves.
-fn append_unless(q: Queue, entry: u8, t: u8) -> Queue
-    requires { ⌜ (q ≡ queueFrom (entriesOf q)) × (q .length < 64) ⌝ }
-    ensures { λ r. ⌜ r ≡ queueFrom (entriesOf q ++ consIf (not (eqb entry t)) entry []) ⌝ }
+// What is written after the entries that stay: the next entry, or zero where it is the one that leaves. The next that stays is written over it.
+fn entry_or_zero(stays: bool, entry: u8) -> u8
+    ensures { λ r. ⌜ r ≡ cond stays entry 0 ⌝ }
 {
-    if entry == t {
-        return q;
+    if stays {
+        return entry;
     }
-    append(q, entry)
+    0
 }
 
-// The first entries, without thread t. Appending the others to a fresh queue holds for any entries, with repeats or without.
+// The first entries, without thread t. Writing the others from the front holds for any entries, with repeats or without.
 fn without(entries: [u8; 64], queued: u8, t: u8) -> Queue
     ensures { λ r. ⌜ r ≡ queueFrom (leaves (take queued entries) t) ⌝ }
 {
     let count = in_use(queued);
-    let zeros = [0u8; 64];
-    let mut q = Queue {
-        entries: zeros,
-        length: 0,
-    };
+    let mut kept = [0u8; 64];
+    let mut length: u8 = 0;
     let mut i: usize = 0;
     while i < count {
         let entry = entries[i];
-        q = append_unless(q, entry, t);
+        let stays = entry != t;
+        let next = length as usize;
+        kept[next] = entry_or_zero(stays, entry);
+        length += stays as u8;
         i += 1;
     }
-    q
+    Queue {
+        entries: kept,
+        length: length,
+    }
 }
 
 // Thread t is one of the first entries.

@@ -13,10 +13,6 @@ ghost use Rattle.model.specs.State.{wanted};
 ghost use Rattle.model.specs.Sound as Model;
 ghost use Rattle.model.specs.Event.{refusedState};
 
-pub mod books;
-pub mod queue;
-pub mod threads;
-
 // The settings are within the sheet's limits.
 fn within_limits(settings: Settings) -> bool
     ensures { λ r. ⌜ r ≡ withinLimits settings ⌝ }
@@ -32,12 +28,12 @@ pub fn sound(s: State, history: &[u32]) -> bool
     requires { ⌜ (withinLimits (s .settings) ≡ true) × (wanted s ≤ length (now history)) ⌝ }
     ensures { λ r. ⌜ r ≡ Model.sound s (now (history .entry)) ⌝ }
 {
-    let fine = books::sound_rest(s) & books::sound_history(s, history) & threads::sound_threads(s);
-    let ready = queue::sound_queue(s);
+    let fine = books::sound_rest(s) & books::sound_history(s, history) & roster::sound_threads(s);
+    let ready = roster::sound_queue(s);
     if !ready {
         return false;
     }
-    fine & ready & threads::sound_running(s)
+    fine & ready & roster::sound_running(s)
 }
 
 // What every door that is given a state refuses before all else: 8 for settings outside their limits, because the length wanted is worked

@@ -15,7 +15,7 @@ add-r c = search needs
 returns : tie.Need-returns
 returns c =
     let start = c .before .before in
-    appended (start .args .q) (start .args .t) (start .pre .0) (start .pre .1)
+    appended (start .args .q) (start .pre .0) (start .pre .1) (start .args .t)
 
 pub append-spec : {M : Type 1} → statement M
 append-spec = tie.close (tie.spec cast-n element-write-r add-r returns)

@@ -9,25 +9,29 @@ use Rattle.lists.proofs.Loops.{take-min}
 use Rattle.model.specs.Step.{leaves}
 use Rattle.queue.specs.declared.Queue.{Queue}
 use Rattle.queue.specs.Entries.{queueFrom}
-use Rattle.queue.proofs.Laws.{empty, length-from, leaves-few, left-more, from-entries}
+use Rattle.queue.proofs.Laws.{empty, fits-byte, kept-few, left-more}
 use Rattle.queue.proofs.without.Statement.{statement}
 use Rattle.queue.proofs.without.Tie as tie
 
--- the queue built so far is that of the entries read, without thread t
+-- what is kept so far is the queue of the entries read, without thread t
 abbrev Inv-loop : tie.InvT-loop
-Inv-loop queued t entries count q₀ i₀ q i = (i ≤ count) × (q ≡ queueFrom (leaves (take i entries) t))
+Inv-loop queued t entries count kept₀ length₀ i₀ kept length i =
+    (i ≤ count) × (_≡_ {A = Queue} (record { entries = kept; length = length }) (queueFrom (leaves (take i entries) t)))
 
 abbrev μ-loop : tie.MeasureT-loop
-μ-loop queued t entries count q₀ i₀ q i = count - i
+μ-loop queued t entries count kept₀ length₀ i₀ kept length i = count - i
 
 full : (c : tie.Start Inv-loop μ-loop) → length (c .args .t1) ≡ 64
 full c = search needs
 
-size : (c : tie.At-loop Inv-loop μ-loop) → c .loop .q .length ≤ c .loop .i
-size c =
-    let start = c .before .before in
-    let l = take (c .loop .i) (start .args .t1) in
-    omega (arith, ap (λ (q : Queue). q .length) (c .loop .inv .1), length-from (leaves l (start .args .t)), leaves-few (start .args .t1) (start .args .t) (c .loop .i))
+early : (c : tie.In-loop Inv-loop μ-loop) → c .before .loop .i < 64
+early c = omega (arith, c .loop-test .taken, c .before .before .in-use .ensures)
+
+room : (c : tie.In-loop Inv-loop μ-loop) → c .before .loop .length < 64
+room c =
+    let start = c .before .before .before in
+    let turn = c .before .loop in
+    omega (arith, early c, kept-few (start .args .t1) (start .args .t) (turn .i) (record { entries = turn .kept; length = turn .length }) (turn .inv .1))
 
 in-use-requires : tie.Need-in-use-requires Inv-loop μ-loop
 in-use-requires c κs = search needs
@@ -39,10 +43,20 @@ loop-holds c = (omega arith, empty)
 array-read-entry : tie.Need-array-read-entry Inv-loop μ-loop
 array-read-entry c = search needs
 
-append-unless-requires : tie.Need-append-unless-requires Inv-loop μ-loop
-append-unless-requires c κs =
-    let turn = c .before .loop in
-    (from-entries (turn .q) _ (turn .inv .1), omega (arith, size (c .before), c .loop-test .taken, c .before .before .in-use .ensures))
+cast-next : tie.Need-cast-next Inv-loop μ-loop
+cast-next c = record { fits = omega (arith, room c) }
+
+entry-or-zero-requires : tie.Need-entry-or-zero-requires Inv-loop μ-loop
+entry-or-zero-requires c κs = search needs
+
+array-write-kept : tie.Need-array-write-kept Inv-loop μ-loop
+array-write-kept c = room (c .before)
+
+cast-length : tie.Need-cast-length Inv-loop μ-loop
+cast-length c = search needs
+
+add-length : tie.Need-add-length Inv-loop μ-loop
+add-length c = record { fits = search (fits-byte, room (c .before)) }
 
 add-i : tie.Need-add-i Inv-loop μ-loop
 add-i c = search needs
@@ -54,8 +68,12 @@ loop-again : tie.Need-loop-again Inv-loop μ-loop
 loop-again c =
     let start = c .before .before .before .before in
     let turn = c .before .before .loop in
-    let within : turn .i < length (start .args .t1) = omega (arith, full start, c .before .before .before .in-use .ensures) in
-    (omega arith, left-more (start .args .t1) (start .args .t) (turn .i) (turn .q) (c .append-unless .result) within (turn .inv .1) (c .append-unless .ensures))
+    let inside : turn .i < length (start .args .t1) = omega (arith, full start, early (c .before)) in
+    let kept : Queue = record { entries = turn .kept; length = turn .length } in (
+      omega arith,
+      left-more (start .args .t1) (start .args .t) (turn .i) kept (c .entry-or-zero .result) inside (early (c .before)) (turn .inv .1)
+          (c .entry-or-zero .ensures),
+    )
 
 returns : tie.Need-returns Inv-loop μ-loop
 returns c =
@@ -73,7 +91,11 @@ without-spec =
     in-use-requires
     loop-holds
     array-read-entry
-    append-unless-requires
+    cast-next
+    entry-or-zero-requires
+    array-write-kept
+    cast-length
+    add-length
     add-i
     loop-less
     loop-again
