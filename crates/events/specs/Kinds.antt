@@ -1,11 +1,6 @@
--- The kinds of events, as the program's types, and what an action needs of the state.
-use mathlib.Core.Path.{_≡_}
-use Prim.Native.Nat.{ℕ, _≤_, _<_}
-use mathlib.Core.List.{List}
-use lib.ListN.{length}
-use Rattle.model.specs.Event.{kindOf, threadOf, tick, create, ready, block, setPriority, end, resume, known, namesThread, namesPlace, namesPriority}
-use Rattle.model.specs.declared.State.{State}
-use Rattle.queue.specs.Entries.{Room}
+-- The kinds of events, as the program's types.
+use Prim.Native.Nat.{ℕ}
+use Rattle.model.specs.Event.{tick, create, ready, block, setPriority, end, resume, known, namesThread, namesPlace, namesPriority}
 use Rattle.events.specs.declared.Action.{Action}
 use Rattle.events.specs.declared.Action.the-variants.{Unknown, Tick, Create, Ready, Block, SetPriority, End, Resume}
 use Rattle.events.specs.declared.Uses.{Uses}
@@ -24,10 +19,3 @@ kindNumber Resume = resume
 -- the column "uses" of the table of kinds
 unfoldable pub usesOf : ℕ → Uses
 usesOf k = record { known = known k; thread = namesThread k; place = namesPlace k; priority = namesPriority k }
-
--- what an action needs, and an accepted event on a sound state has: twelve bytes, a thread number below 64 where the kind names a thread,
--- and room in the queue for a thread that becomes ready
-pub record Able (s : State) (b : List ℕ) : Type 0 where
-  pub twelve : length b ≡ 12
-  pub thread-inside : create ≤ kindOf b → kindOf b ≤ end → threadOf b < 64
-  pub room : kindOf b ≡ ready → Room s

@@ -1,13 +1,9 @@
-// Event records: what their twelve bytes say, which are refused and why (refuse.rt), and what each kind does to the threads and the ready
-// queue (acts.rt).
+// Event records: what their twelve bytes say.
 ghost use mathlib.Core.Path.{_≡_};
 ghost use mathlib.Core.Bool.{cond};
 ghost use lib.ListN.{length};
 ghost use Rattle.model.specs.Event.{known, stampOf, wellFormed};
 ghost use Rattle.events.specs.Kinds.{kindNumber, usesOf};
-
-pub mod acts;
-pub mod refuse;
 
 // What an event asks for. `kindNumber` in specs/ gives each case the number of its kind.
 pub enum Action {

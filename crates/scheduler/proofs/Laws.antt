@@ -29,8 +29,8 @@ use Rattle.model.specs.declared.Verdict.the-variants as verdict
 use Rattle.guarantee.proofs.Acts.{act-settled}
 use Rattle.guarantee.proofs.Kept.{charge-settled, length-charge}
 use Rattle.guarantee.proofs.Applied.{Left, named, apply-left}
-use Rattle.events.specs.Kinds.{Able}
-use Rattle.events.proofs.Laws.{act-ready}
+use Rattle.actions.specs.Able.{Able}
+use Rattle.actions.proofs.Laws.{act-ready}
 use Rattle.policy.specs.Needs.{Bounded}
 use Rattle.policy.proofs.Bounds.{settled-bounded}
 use Rattle.scheduler.specs.Answers.{Answered}

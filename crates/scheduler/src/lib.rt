@@ -30,7 +30,7 @@ fn apply(s: State, history: &mut [u32], event: &[u8]) -> State
     if kind == 1 {
         return window::move_slot(t, history);
     }
-    events::acts::act(t, event)
+    actions::act(t, event)
 }
 
 // All three steps: what was decided is the answer, and the thread chosen runs.
@@ -52,7 +52,7 @@ pub fn step(s: State, history: &mut [u32], event: &[u8]) -> Answer
     requires { ⌜ refusedState s (now history) ≡ 0 ⌝ }
     ensures { λ r. ⌜ Answered r (now (history .exit)) (Step.answer (saved s (now (history .entry))) (now (event .entry))) ⌝ }
 {
-    let outcome = events::refuse::refused_event(s, event);
+    let outcome = admission::refused_event(s, event);
     match outcome {
         Outcome::Refused(refusal) => Answer {
             verdict: Verdict::Refused(refusal),
