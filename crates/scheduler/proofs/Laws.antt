@@ -40,7 +40,7 @@ use Rattle.guarantee.proofs.Applied.{Left, named, apply-left}
 use Rattle.guarantee.proofs.Answered.{Good, good-answer}
 use Rattle.events.specs.Kinds.{Able}
 use Rattle.events.proofs.Laws.{act-ready}
-use Rattle.policy.specs.Needs.{Bounded}
+use Rattle.selection.specs.Needs.{Bounded}
 use Rattle.policy.proofs.Bounds.{settled-bounded}
 use Rattle.scheduler.specs.Answers.{Answered, Begun}
 use Rattle.scheduler.specs.declared.Answer.{Answer}
