@@ -11,7 +11,7 @@ use Rattle.sheet.specs.Settings.{Limits}
 use Rattle.model.specs.State.{thread, queueOf}
 use Rattle.model.specs.Facts.{Settled}
 use Rattle.model.specs.declared.State.{State}
-use Rattle.policy.specs.Needs.{Bounded}
+use Rattle.selection.specs.Needs.{Bounded}
 
 pub bounded : (s : State) → Limits (s .settings) → length (s .queue) ≡ 64 → s .queued ≤ 64
     → ((t : ℕ) → member t (queueOf s) ≡ true → t < 64)

@@ -1,11 +1,10 @@
--- Laws of the order and of the best standing: they are the paper's order and winner.
+-- Laws of the order and of the second pass over the partitions: they give the paper's order and its winner.
 use mathlib.Core.Path.{_≡_, refl, ap, _∙_}
-use Prim.Native.Nat.{ℕ, zero, suc, _<_, _≤_}
+use Prim.Native.Nat.{ℕ, zero, suc, _+_, _<_, _≤_}
 use mathlib.Core.Bool.{Bool, true, false, not, cond, _&&_, _||_}
-use mathlib.Core.List.{List}
 use mathlib.Core.Option.{Option, none, some}
+use native.Mathlib.Numerals.{add-one}
 use native.Mathlib.Omega.{arith}
-use lib.ListN.{getD}
 use lib.Dec.{eqb, ltb}
 use borrow.Author.Tests.{ltb-true, ltb-false, eq-eqb, ne-eqb}
 use Rattle.model.specs.Policy
@@ -14,11 +13,13 @@ use Rattle.model.specs.Answers.{modeOf}
 use Rattle.model.specs.declared.State.{State}
 use Rattle.model.specs.declared.Mode.{Mode}
 use Rattle.model.specs.declared.Mode.the-variants.{Idle, FreeTime, Underload, AtLimit}
-use Rattle.policy.specs.Standings.{nothing, standing, Standings}
-use Rattle.policy.specs.Orders.{orderBy, firstBy, comesBefore, ledBy, leadBelow}
-use Rattle.policy.specs.Search.{standingOfWinner}
-use Rattle.policy.specs.declared.orders.Order.{Order}
-use Rattle.policy.specs.declared.standings.Standing.{Standing}
+use Rattle.ranking.specs.Standings.{nothing}
+use Rattle.ranking.specs.Orders.{orderBy, firstBy, comesBefore, ledBy}
+use Rattle.ranking.specs.declared.orders.Order.{Order}
+use Rattle.ranking.specs.declared.standings.Standing.{Standing}
+use Rattle.ranking.proofs.Leads.{led-skip, led-new, led-both}
+use Rattle.selection.specs.Standings.{standing}
+use Rattle.selection.specs.Search.{standingOfWinner}
 
 -- ---- the order
 
@@ -86,27 +87,19 @@ order-found s m e p q = before-is s p q m ∙ ap (λ (k : ℕ). Policy.before s 
 
 -- ---- the best standing
 
-lead-same : (o : Order) (f g : ℕ → Standing) (n : ℕ) → ((p : ℕ) → p < n → f p ≡ g p) → leadBelow o f n ≡ leadBelow o g n
+-- the best standing of the partitions below n; one that does not compete where none of them does
+unfoldable pub leadBelow : Order → State → ℕ → Standing
+leadBelow o s zero = nothing
+leadBelow o s (suc p) = ledBy o (leadBelow o s p) (standing s p)
+
+pub lead-none : (o : Order) (s : State) → nothing ≡ leadBelow o s 0
 unfolding leadBelow
-lead-same o f g zero h = refl
-lead-same o f g (suc n) h = rw (lead-same o f g n (λ p b. h p (omega arith)), h n (omega arith))
+lead-none o s = refl
 
-module _ (o : Order) (best x : Standing) where
-  -- by the answer z to whether x comes before the best
-  pub led-by : (z : Bool) → comesBefore o x best ≡ z → ledBy o best x ≡ cond (x .competing && (not (best .competing) || z)) x best
-  unfolding ledBy
-  led-by z f = rw f
-
-  led-skip : x .competing ≡ false → ledBy o best x ≡ best
-  unfolding ledBy
-  led-skip e = rw e
-
-  led-new : x .competing ≡ true → best .competing ≡ false → ledBy o best x ≡ x
-  unfolding ledBy
-  led-new e c = rw (e, c)
-
-  led-both : x .competing ≡ true → best .competing ≡ true → (z : Bool) → comesBefore o x best ≡ z → ledBy o best x ≡ cond z x best
-  led-both e c z f = led-by z f ∙ rw (e, c)
+pub lead-more : (o : Order) (s : State) (n : ℕ) (old new x : Standing) → old ≡ leadBelow o s n → x ≡ standing s n
+    → new ≡ ledBy o old x → new ≡ leadBelow o s (n + 1)
+unfolding leadBelow
+lead-more o s n old new x e f g = rw (add-one, g, e, f)
 
 competes : (s : State) (p : ℕ) → standing s p .competing ≡ competing s p
 unfolding standing
@@ -130,24 +123,21 @@ module _ (s : State) (o : Order) (h : (p q : ℕ) → comesBefore o (standing s 
       go true f = (led true f, e)
       go false f = (led false f, c)
 
-  lead-is : (n : ℕ) → Leads (leadBelow o (standing s) n) (best s n)
+  lead-is : (n : ℕ) → Leads (leadBelow o s n) (best s n)
   unfolding leadBelow best
   lead-is zero = refl
   lead-is (suc p) = go (competing s p) refl (lead-is p)
     where
-      go : (z : Bool) → competing s p ≡ z → Leads (leadBelow o (standing s) p) (best s p)
-          → Leads (ledBy o (leadBelow o (standing s) p) (standing s p)) (cond z (some (better s p (best s p))) (best s p))
-      go true e i = over p (leadBelow o (standing s) p) (best s p) i e
-      go false e i = rw (led-skip o (leadBelow o (standing s) p) (standing s p) (competes s p ∙ e)) i
+      go : (z : Bool) → competing s p ≡ z → Leads (leadBelow o s p) (best s p)
+          → Leads (ledBy o (leadBelow o s p) (standing s p)) (cond z (some (better s p (best s p))) (best s p))
+      go true e i = over p (leadBelow o s p) (best s p) i e
+      go false e i = rw (led-skip o (leadBelow o s p) (standing s p) (competes s p ∙ e)) i
 
   leads-standing : (x : Standing) (b : Option ℕ) → Leads x b → x ≡ standingOfWinner s b
   leads-standing x none i = i
   leads-standing x (some b) i = i .0
 
-  -- the best of the standings is the winner's
-  pub lead-found : (all : List Standing) → Standings s all
-      → leadBelow o (λ p. getD all p nothing) (s .settings .count) ≡ standingOfWinner s (winner s)
+  -- the best of all standings is the winner's
+  pub lead-found : leadBelow o s (s .settings .count) ≡ standingOfWinner s (winner s)
   unfolding winner
-  lead-found all k =
-      let n = s .settings .count in
-      lead-same o (λ p. getD all p nothing) (standing s) n k ∙ leads-standing (leadBelow o (standing s) n) (best s n) (lead-is n)
+  lead-found = let n = s .settings .count in leads-standing (leadBelow o s n) (best s n) (lead-is n)

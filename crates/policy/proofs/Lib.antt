@@ -1,6 +1,6 @@
 pub mod Passes
 pub mod Tallies
 pub mod Leads
-pub mod Elections
+pub mod Decisions
 pub mod Bounds
 pub mod Verdicts

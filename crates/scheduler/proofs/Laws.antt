@@ -31,7 +31,7 @@ use Rattle.guarantee.proofs.Kept.{charge-settled, length-charge}
 use Rattle.guarantee.proofs.Applied.{Left, named, apply-left}
 use Rattle.actions.specs.Able.{Able}
 use Rattle.actions.proofs.Laws.{act-ready}
-use Rattle.policy.specs.Needs.{Bounded}
+use Rattle.selection.specs.Needs.{Bounded}
 use Rattle.policy.proofs.Bounds.{settled-bounded}
 use Rattle.scheduler.specs.Answers.{Answered}
 

@@ -1,0 +1,4 @@
+pub mod Needs
+pub mod Claims
+pub mod Standings
+pub mod Search
