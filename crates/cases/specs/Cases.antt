@@ -9,8 +9,9 @@ use lib.IntN.{ℤ, pos, negsuc, _-ℤ_}
 use Rattle.lists.specs.Lists.{below, any, all, keep, first, maximum, distinct}
 use Rattle.units.specs.Units.{budgetOf, elapsedOf, remainingOf, hasBudgetOf, smallerFraction}
 use Rattle.sheet.specs.Settings.{budget, windowFits, tickFits, policyAndCoreFit, countFits, sharesFit, withinLimits, refusedNumbers, refusedSettings}
-use Rattle.sheet.specs.Records.{numberFrom, framed, fieldOf, digitsOf, recordOf}
-use Rattle.sheet.specs.Sheet.{letterAt, wholeRecords, fieldAt, valueAt, recordsFormed, settingsOf, refusedSheet, valueOf, recordsOf, sheetOf}
+use Rattle.records.specs.Records.{numberFrom, framed, fieldOf, digitsOf, recordOf}
+use Rattle.order.specs.Order.{letterAt, wholeRecords, fieldAt, valueAt, recordsFormed, recordsOf}
+use Rattle.sheet.specs.Sheet.{settingsOf, refusedSheet, valueOf, sheetOf}
 use Rattle.model.specs.State.{allows}
 use Rattle.model.specs.Policy
 use Rattle.model.specs.Sound

@@ -11,7 +11,7 @@ use native.Mathlib.Numerals.{add-one}
 use native.Mathlib.Decide.{decLe}
 use Rattle.lists.specs.Lists.{below}
 use Rattle.lists.proofs.Tables.{table-length}
-use Rattle.sheet.specs.Records.{digitsOf}
+use Rattle.records.specs.Records.{digitsOf}
 use Rattle.sheet.specs.declared.Settings.{Settings}
 use Rattle.refusals.specs.Refusals.{numberOf, outcomeOf}
 use Rattle.refusals.specs.declared.Refusal.{Refusal}

@@ -16,7 +16,8 @@ use Rattle.refusals.specs.declared.Outcome.{Outcome}
 use Rattle.refusals.specs.declared.Outcome.the-variants.{Accepted, Refused}
 use Rattle.refusals.proofs.Laws.{never-zero}
 use Rattle.sheet.specs.Settings.{percentAt, refusedNumbers, refusedSettings, zeroSettings}
-use Rattle.sheet.specs.Sheet.{recordCount, wholeRecords, recordsFormed, valuesOf, sharesBy, settingsIn, settingsOf, unlessRefused, refusedSheet, settingsRead, sheetOf, sheetLength, refusedWrite, lengthWritten, bufferWritten}
+use Rattle.order.specs.Order.{recordCount, wholeRecords, recordsFormed, valuesOf}
+use Rattle.sheet.specs.Sheet.{sharesBy, settingsIn, settingsOf, unlessRefused, refusedSheet, settingsRead, sheetOf, sheetLength, refusedWrite, lengthWritten, bufferWritten}
 use Rattle.sheet.specs.declared.Settings.{Settings}
 
 -- ---- an outcome and its number

@@ -1,19 +1,19 @@
 // The share sheet of document 01: read into settings, and written back byte for byte.
 ghost use mathlib.Core.Path.{_≡_};
+ghost use mathlib.Core.List.{map};
 ghost use Prim.Native.Nat.{_<_, _≤_};
 ghost use lib.ListN.{getD};
+ghost use Rattle.lists.specs.Lists.{below};
 ghost use Rattle.refusals.specs.Refusals.{outcomeOf};
 ghost use Rattle.sheet.specs.Settings.{refusedSettings, zeroSettings};
-ghost use Rattle.sheet.specs.Sheet.{sharesBy, settingsIn, unlessRefused, refusedWrite, ReadAnswer, WriteAnswer};
+ghost use Rattle.sheet.specs.Sheet.{sharesBy, settingsIn, unlessRefused, valueOf, refusedWrite, ReadAnswer, WriteAnswer};
 use refusals::Outcome;
 use refusals::Refusal;
 use units::Cycles;
 use units::Percent;
 use units::Ticks;
 
-mod record; // one record
-mod order; // all records, in their order
-mod numbers; // the limits of their numbers
+mod numbers; // the limits of the numbers
 
 // What a share sheet says. Partitions are numbered from 0, and 0 is System. Policy, core and count are plain numbers, so that settings
 // outside their limits can be given, and are refused.
@@ -31,12 +31,6 @@ pub struct Settings {
     pub count: u8,
     // The paper's S records.
     pub shares: [Percent; 16],
-}
-
-// What one record of a sheet says: a value, or a refusal.
-pub enum Field {
-    Value(u32),
-    Refused,
 }
 
 // What reading a sheet answers; zeros beside a refusal.
@@ -112,17 +106,21 @@ fn settings_from(values: [u32; 20], n: usize) -> Reading
         × (r .settings ≡ unlessRefused (refusedSettings (settingsIn values n)) (settingsIn values n)) ⌝ }
 {
     let count = n - 4;
+    let window = values[0];
+    let tick = values[1];
+    let policy = values[2];
+    let core = values[3];
     let shares = shares_from(values);
     let sum = numbers::total_share(shares, count);
-    let outcome = numbers::limits_of(count, values[0], values[1], values[2], values[3], sum);
+    let outcome = numbers::limits_of(count, window, tick, policy, core, sum);
     match outcome {
         Outcome::Refused(refusal) => zeros_beside(refusal),
         Outcome::Accepted => {
             let settings = Settings {
-                window: Ticks(values[0]),
-                tick: Cycles(values[1]),
-                policy: values[2] as u8,
-                core: values[3] as u8,
+                window: Ticks(window),
+                tick: Cycles(tick),
+                policy: policy as u8,
+                core: core as u8,
                 count: count as u8,
                 shares: shares,
             };
@@ -169,6 +167,24 @@ fn refused_write(settings: Settings, room: usize) -> Outcome
     Outcome::Accepted
 }
 
+// The values of the records that say the settings.
+fn values_from(settings: Settings) -> [u32; 20]
+    ensures { λ r. ⌜ r ≡ map (valueOf settings) (below 20) ⌝ }
+{
+    let shares = settings.shares;
+    let mut values = [0u32; 20];
+    values[0] = settings.window.0;
+    values[1] = settings.tick.0;
+    values[2] = settings.policy as u32;
+    values[3] = settings.core as u32;
+    let mut p = 0;
+    while p < 16 {
+        values[4 + p] = shares[p].0;
+        p += 1;
+    }
+    values
+}
+
 // Writes the sheet that says the settings at the start of the buffer, and nothing after it. A refusal writes nothing.
 pub fn write_sheet(settings: Settings, buffer: &mut [u8]) -> Writing
     ensures { λ r. ⌜ WriteAnswer settings (now (buffer .entry)) r (now (buffer .exit)) ⌝ }
@@ -180,9 +196,10 @@ pub fn write_sheet(settings: Settings, buffer: &mut [u8]) -> Writing
             length: 0,
         };
     };
-    order::write_records(settings, buffer);
+    let n = 4 + settings.count as usize;
+    order::write_records(values_from(settings), n, buffer);
     Writing {
         outcome: outcome,
-        length: 12 * (4 + settings.count as usize),
+        length: 12 * n,
     }
 }

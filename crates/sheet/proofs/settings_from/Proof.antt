@@ -12,23 +12,23 @@ use Rattle.sheet.proofs.settings_from.Tie as tie
 sub-count : tie.Need-sub-count
 sub-count c = search needs
 
+array-read-window : tie.Need-array-read-window
+array-read-window c = search needs
+
+array-read-tick : tie.Need-array-read-tick
+array-read-tick c = search needs
+
+array-read-policy : tie.Need-array-read-policy
+array-read-policy c = search needs
+
+array-read-core : tie.Need-array-read-core
+array-read-core c = search needs
+
 shares-from-requires : tie.Need-shares-from-requires
 shares-from-requires c κs = search needs
 
 total-share-requires : tie.Need-total-share-requires
 total-share-requires c κs = search needs
-
-array-read-limits-of : tie.Need-array-read-limits-of
-array-read-limits-of c = search needs
-
-array-read-limits-of-2 : tie.Need-array-read-limits-of-2
-array-read-limits-of-2 c = search needs
-
-array-read-limits-of-3 : tie.Need-array-read-limits-of-3
-array-read-limits-of-3 c = search needs
-
-array-read-limits-of-4 : tie.Need-array-read-limits-of-4
-array-read-limits-of-4 c = search needs
 
 limits-of-requires : tie.Need-limits-of-requires
 limits-of-requires c κs = search needs
@@ -42,26 +42,14 @@ zeros-beside-requires c κs = search needs
 enum-told : tie.Need-enum-told
 enum-told c = search needs
 
-array-read-t26 : tie.Need-array-read-t26
-array-read-t26 c = search needs
+cast-t27 : tie.Need-cast-t27
+cast-t27 c = omega (arith, small _ _ _ _ _ _ (accepted-number (c .enum-told .given .1) (c .before .before .limits-of .ensures)) .0)
 
-array-read-t30 : tie.Need-array-read-t30
-array-read-t30 c = search needs
+cast-t28 : tie.Need-cast-t28
+cast-t28 c = omega (arith, small _ _ _ _ _ _ (accepted-number (c .enum-told .given .1) (c .before .before .limits-of .ensures)) .1)
 
-array-read-t34 : tie.Need-array-read-t34
-array-read-t34 c = search needs
-
-cast-t35 : tie.Need-cast-t35
-cast-t35 c = omega (arith, small _ _ _ _ _ _ (accepted-number (c .enum-told .given .1) (c .before .before .limits-of .ensures)) .0)
-
-array-read-t38 : tie.Need-array-read-t38
-array-read-t38 c = search needs
-
-cast-t39 : tie.Need-cast-t39
-cast-t39 c = omega (arith, small _ _ _ _ _ _ (accepted-number (c .enum-told .given .1) (c .before .before .limits-of .ensures)) .1)
-
-cast-t40 : tie.Need-cast-t40
-cast-t40 c = search needs
+cast-t29 : tie.Need-cast-t29
+cast-t29 c = search needs
 
 returns : tie.Need-returns
 returns c =
@@ -86,22 +74,18 @@ settings-from-spec =
     tie.close
     (tie.spec
     sub-count
+    array-read-window
+    array-read-tick
+    array-read-policy
+    array-read-core
     shares-from-requires
     total-share-requires
-    array-read-limits-of
-    array-read-limits-of-2
-    array-read-limits-of-3
-    array-read-limits-of-4
     limits-of-requires
     enum-known-outcome
     zeros-beside-requires
     enum-told
-    array-read-t26
-    array-read-t30
-    array-read-t34
-    cast-t35
-    array-read-t38
-    cast-t39
-    cast-t40
+    cast-t27
+    cast-t28
+    cast-t29
     returns
     returns-2)
