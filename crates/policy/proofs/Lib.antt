@@ -1,6 +1,1 @@
-pub mod Passes
-pub mod Tallies
-pub mod Leads
-pub mod Decisions
-pub mod Bounds
 pub mod Verdicts

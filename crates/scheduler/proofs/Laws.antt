@@ -32,7 +32,7 @@ use Rattle.guarantee.proofs.Applied.{Left, named, apply-left}
 use Rattle.actions.specs.Able.{Able}
 use Rattle.actions.proofs.Laws.{act-ready}
 use Rattle.selection.specs.Needs.{Bounded}
-use Rattle.policy.proofs.Bounds.{settled-bounded}
+use Rattle.election.proofs.Bounds.{settled-bounded}
 use Rattle.scheduler.specs.Answers.{Answered}
 
 -- ---- after the charge of an event that is no resume

@@ -39,7 +39,7 @@ fn accept(s: State, history: &mut [u32], event: &[u8]) -> Answer
     ensures { λ r. ⌜ Answered r (now (history .exit)) (Step.answer (saved s (now (history .entry))) (now (event .entry))) ⌝ }
 {
     let mut t = apply(s, history, event);
-    let decision = policy::decide(t);
+    let decision = election::decide(t);
     t.running = decision.thread;
     Answer {
         verdict: Verdict::Decided(decision),

@@ -1,5 +1,5 @@
 -- What the decision needs of a state, so that no index is out of range and no number too large. A sound state has all of it
--- (the law `bounded` in crates/policy/proofs/Bounds says from what).
+-- (the law `bounded` in crates/election/proofs/Bounds says from what).
 use Prim.Native.Nat.{ℕ, _≤_, _<_}
 use lib.ListN.{getD}
 use Rattle.sheet.specs.Settings.{Limits}

@@ -10,12 +10,12 @@ use Rattle.model.specs.Answers.{modeOf}
 use Rattle.model.specs.Policy.{mode}
 use Rattle.ranking.specs.Modes.{modeBy}
 use Rattle.selection.specs.Standings.{Standings}
-use Rattle.policy.proofs.Passes.{StandingsBelow, standings-more, standing-made}
-use Rattle.policy.proofs.Tallies.{tallyBelow, tally-none, tally-more, mode-found}
-use Rattle.policy.proofs.Leads.{leadBelow, lead-none, lead-more}
-use Rattle.policy.proofs.Decisions.{ranked, decided}
-use Rattle.policy.proofs.decide.Statement.{statement}
-use Rattle.policy.proofs.decide.Tie as tie
+use Rattle.election.proofs.Passes.{StandingsBelow, standings-more, standing-made}
+use Rattle.election.proofs.Tallies.{tallyBelow, tally-none, tally-more, mode-found}
+use Rattle.election.proofs.Leads.{leadBelow, lead-none, lead-more}
+use Rattle.election.proofs.Decisions.{ranked, decided}
+use Rattle.election.proofs.decide.Statement.{statement}
+use Rattle.election.proofs.decide.Tie as tie
 
 abbrev Inv-loop : tie.InvT-loop
 Inv-loop s claims used settings window tick count nothing all₀ tally₀ p₀ all tally p =

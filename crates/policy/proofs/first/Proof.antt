@@ -2,8 +2,8 @@
 use Rattle.refusals.specs.Refusals.{outcomeOf}
 use Rattle.policy.proofs.Verdicts.{then-next, stands}
 use borrow.Author.Needs.{needs}
-use Rattle.policy.proofs.doors.first.Statement.{statement}
-use Rattle.policy.proofs.doors.first.Tie as tie
+use Rattle.policy.proofs.first.Statement.{statement}
+use Rattle.policy.proofs.first.Tie as tie
 
 enum-told : tie.Need-enum-told
 enum-told c = search needs

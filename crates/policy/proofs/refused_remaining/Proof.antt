@@ -4,8 +4,8 @@ use denote.Ref.{now}
 use Rattle.refusals.specs.Refusals.{outcomeOf}
 use Rattle.policy.proofs.Verdicts.{refused-by}
 use borrow.Author.Needs.{needs}
-use Rattle.policy.proofs.doors.refused_remaining.Statement.{statement}
-use Rattle.policy.proofs.doors.refused_remaining.Tie as tie
+use Rattle.policy.proofs.refused_remaining.Statement.{statement}
+use Rattle.policy.proofs.refused_remaining.Tie as tie
 
 refused-state-requires : tie.Need-refused-state-requires
 refused-state-requires c κs = search needs

@@ -18,8 +18,8 @@ use Rattle.model.proofs.Shape.{shaped}
 use Rattle.model.proofs.Accepted.{fit-of}
 use Rattle.policy.proofs.Verdicts.{both-pass, remaining-refused, remaining-told}
 use borrow.Author.Needs.{needs}
-use Rattle.policy.proofs.doors.remaining.Statement.{statement}
-use Rattle.policy.proofs.doors.remaining.Tie as tie
+use Rattle.policy.proofs.remaining.Statement.{statement}
+use Rattle.policy.proofs.remaining.Tie as tie
 
 refused-remaining-requires : tie.Need-refused-remaining-requires
 refused-remaining-requires c κs = search needs

@@ -20,7 +20,7 @@ use Rattle.selection.specs.Needs.{Bounded}
 use Rattle.selection.specs.Standings.{standing, Standings}
 use Rattle.selection.specs.Search.{Ranked, picked}
 use Rattle.selection.specs.declared.search.Pick.{Pick}
-use Rattle.policy.proofs.Leads.{order-found, leadBelow, lead-found}
+use Rattle.election.proofs.Leads.{order-found, leadBelow, lead-found}
 
 -- the standings, the order of the mode and the best standing are what the search needs
 pub ranked : (s : State) (all : List Standing) (m : Mode) (o : Order) (best : Standing) → Bounded s → Standings s all → modeOf m ≡ mode s

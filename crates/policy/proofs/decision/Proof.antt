@@ -9,11 +9,11 @@ use Rattle.model.specs.Answers.{decidedOf}
 use Rattle.model.specs.declared.State.{State}
 use Rattle.model.proofs.Shape.{shaped}
 use Rattle.model.proofs.Accepted.{fit-of}
-use Rattle.policy.proofs.Bounds.{settled-bounded}
+use Rattle.election.proofs.Bounds.{settled-bounded}
 use Rattle.policy.proofs.Verdicts.{decision-refused, decision-made}
 use borrow.Author.Needs.{needs}
-use Rattle.policy.proofs.doors.decision.Statement.{statement}
-use Rattle.policy.proofs.doors.decision.Tie as tie
+use Rattle.policy.proofs.decision.Statement.{statement}
+use Rattle.policy.proofs.decision.Tie as tie
 
 refused-state-requires : tie.Need-refused-state-requires
 refused-state-requires c κs = search needs

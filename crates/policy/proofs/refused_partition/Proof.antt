@@ -1,7 +1,7 @@
 -- `refused_partition` refuses by 12 what is not below the count.
 use borrow.Author.Tests.{le-leb, lt-leb}
-use Rattle.policy.proofs.doors.refused_partition.Statement.{statement}
-use Rattle.policy.proofs.doors.refused_partition.Tie as tie
+use Rattle.policy.proofs.refused_partition.Statement.{statement}
+use Rattle.policy.proofs.refused_partition.Tie as tie
 
 returns : tie.Need-returns
 returns c = rw (lt-leb (c .before .args .count) (c .before .args .partition) (c .if1 .taken))
