@@ -18,9 +18,9 @@ VECTORS = ROOT / "tests/vectors"
 
 # what the theorems have to look through: every definition of these files that is not an abbreviation
 OPENED = [
-    ("lists", "Lists"), ("units", "Units"), ("records", "Records"), ("order", "Order"), ("sheet", "Settings"), ("sheet", "Sheet"),
-    ("model", "State"), ("model", "Policy"), ("model", "Sound"), ("model", "Event"), ("model", "Step"), ("model", "Run"),
-    ("model", "Answers"),
+    ("lists", "Lists"), ("units", "Units"), ("limits", "Limits"), ("records", "Records"), ("order", "Order"), ("sheet", "Settings"),
+    ("sheet", "Sheet"), ("model", "State"), ("model", "Policy"), ("model", "Sound"), ("model", "Event"), ("model", "Step"),
+    ("model", "Run"), ("model", "Answers"),
 ]
 
 HEAD = """-- Written by tests/vectors.py.
@@ -84,7 +84,7 @@ def main():
                 if (ROOT / "target" / part).exists():
                     shutil.copytree(ROOT / "target" / part, copy / "target" / part)
         listed = (ROOT / "crates.txt").read_text()
-        (copy / "crates.txt").write_text(listed + "\nvectors: lists refusals units records order sheet model\n")
+        (copy / "crates.txt").write_text(listed + "\nvectors: lists refusals units limits records order sheet model\n")
         crate = copy / "crates/vectors"
         (crate / "src").mkdir(parents=True)
         (crate / "specs").mkdir()
