@@ -1,5 +1,6 @@
 #!/usr/bin/env python3
-"""tools/events: any stream of records comes back from its text byte for byte, and a line that makes no sense is refused with its number."""
+"""tools/events: a line of each kind is document 01's record, and the record that line; any stream of records comes back from its text byte
+for byte; and a line that makes no sense is refused with its number."""
 import importlib.machinery
 import random
 import subprocess
@@ -9,6 +10,16 @@ from pathlib import Path
 
 ROOT = Path(__file__).resolve().parent.parent
 TOOL = ROOT / "tools/events"
+# a line of each kind, and its record by the paper's table: kind, thread, partition, priority, stamp (low byte first), mask, three zeros
+KNOWN = [
+    ("300 tick", "01 00 00 00 2c 01 00 00 00 000000"),
+    ("4294967295 create 5 partition 1 priority 20 mask 3", "02 05 01 14 ff ff ff ff 03 000000"),
+    ("0 ready 63", "03 3f 00 00 00 00 00 00 00 000000"),
+    ("16777216 block 2", "04 02 00 00 00 00 00 01 00 000000"),
+    ("2 priority 9 to 255", "05 09 00 ff 02 00 00 00 00 000000"),
+    ("3 end 4", "06 04 00 00 03 00 00 00 00 000000"),
+    ("65536 resume", "07 00 00 00 00 00 01 00 00 000000"),
+]
 BAD = [
     ("x tick", "line 1: stamp is a whole number"),
     ("5", "line 1: a stamp alone"),
@@ -53,12 +64,17 @@ def main():
         if tool("encode", tool("decode", stream).stdout).stdout != stream:
             wrong += 1
             print(f"events: {stream.hex()} came back otherwise from the program")
+    for text, record in KNOWN:
+        data = bytes.fromhex(record)
+        if events.encode(text) != data or events.decode(data).split() != text.split():
+            wrong += 1
+            print(f"events: {text!r} and {data.hex()} are not each other's")
     for text, reason in BAD:
         done = tool("encode", text.encode())
         if done.returncode == 0 or done.stdout or reason not in done.stderr.decode():
             wrong += 1
             print(f"events: {text!r}: {done.stderr.decode()!r} does not say {reason!r}")
-    print(f"events: {len(streams)} streams there and back, {len(BAD)} bad lines refused, {wrong} wrong")
+    print(f"events: {len(KNOWN)} lines as the paper has them, {len(streams)} streams there and back, {len(BAD)} bad lines refused, {wrong} wrong")
     sys.exit(wrong != 0)
 
 
