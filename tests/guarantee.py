@@ -18,10 +18,11 @@ SHARES = (40, 10, 25, 25)
 WAITING, BOUND = 1, 7750
 
 
-def hostile(seed, rounds):
-    """A list of events that works against the waiting partition; it is not the worst there is. In each round the others sleep for ten ticks of
-    double length, so that it runs far past its budget at the end of a window; then they wake above it for more than two windows of full
-    ticks, and sleep, wake and change priority at odd moments, so that each runs past its own budget too."""
+def hostile(rate, seed, rounds):
+    """A list of events that works against the waiting partition; whether it is the worst there is, nobody has shown. In each round the others
+    sleep for a window of ticks of double length, so that it is charged twenty times its budget. Then two of them wake above it and use
+    the free time of the third, which wakes, with all of its budget, when the waiting partition has budget again. All that time, two windows of
+    full ticks, they sleep, wake and change priority at odd moments, each in `rate` of a hundred periods, so that they run past their budgets."""
     draw = random.Random(seed)
     stamp = 2**32 - 50 * TICK
     events = [(7, record(7, stamp), stamp)]
@@ -29,18 +30,19 @@ def hostile(seed, rounds):
         priority = 1 if partition == WAITING else 100 + partition
         events.append((2, record(2, stamp, partition, partition, priority, 1), stamp))
     events.append((3, record(3, stamp, WAITING), stamp))
-    for _ in range(rounds):
-        for _ in range(10):
+    for turn in range(rounds):
+        for _ in range(WINDOW):
             stamp += 2 * TICK
             events.append((1, record(1, stamp), stamp))
-        events += [(3, record(3, stamp, other), stamp) for other in (0, 2, 3)]
-        for _ in range(3 * WINDOW):
-            moves = []
-            for other in (0, 2, 3):
-                if draw.random() < seed / 100:
+        events += [(3, record(3, stamp, other), stamp) for other in (2, 3)]
+        for period in range(2 * WINDOW + 10):
+            awake = period > WINDOW - 7 + turn
+            moves = [(draw.randrange(TICK), 3, 0)] if period == WINDOW - 7 + turn else []
+            for other in (0, 2, 3) if awake else (2, 3):
+                if draw.random() < rate / 100:
                     away, back = sorted(draw.sample(range(TICK), 2))
                     moves += [(away, 4, other), (back, 3, other)]
-                elif draw.random() < seed / 100:
+                elif draw.random() < rate / 100:
                     moves.append((draw.randrange(TICK), 5, other))
             for offset, kind, other in sorted(moves):
                 priority = draw.randrange(2, 256) if kind == 5 else 0
@@ -72,8 +74,8 @@ def main():
     sheet = "W 00 %06d\nC 00 %06d\nP 00 000000\nM 00 000000\n" % (WINDOW, TICK) + "".join("S %02d %06d\n" % s for s in enumerate(SHARES))
     found = []
     for policy in (0, 1):
-        for seed in range(12):
-            events = hostile(seed, 4)
+        for seed in range(140):
+            events = hostile(seed % 7, seed, 6)
             with tempfile.TemporaryDirectory() as folder:
                 (Path(folder) / "shares.txt").write_text(sheet.replace("P 00 000000", "P 00 %06d" % policy))
                 out = subprocess.run([desk], cwd=folder, input=b"".join(e[1] for e in events), stdout=subprocess.PIPE, timeout=60, check=True).stdout
