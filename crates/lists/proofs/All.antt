@@ -77,12 +77,6 @@ module _ (f : ℕ → Bool) where
       go true q = refl
       go false q = clash e (none-below n q i h)
 
-pub any-same : (f g : ℕ → Bool) (n : ℕ) → ((p : ℕ) → p < n → f p ≡ g p) → any f (below n) ≡ any g (below n)
-any-same f g n h =
-    same (any f (below n)) (any g (below n))
-    (λ e. let (i, b, t) = any-below f n e in below-any g n i b (sym (h i b) ∙ t))
-    (λ e. let (i, b, t) = any-below g n e in below-any f n i b (h i b ∙ t))
-
 -- ---- members
 
 module _ (f : ℕ → Bool) where

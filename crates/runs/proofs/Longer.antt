@@ -2,7 +2,7 @@
 use mathlib.Core.Path.{_≡_, refl, sym, ap, ap₂, _∙_}
 use Prim.Native.Nat.{ℕ, suc, _+_, _-_, _*_, _/_, _≤_, min}
 use mathlib.Core.Bool.{Bool, true, false, cond}
-use mathlib.Core.List.{List, [], _∷_, _++_, map, append-assoc, append-nil}
+use mathlib.Core.List.{List, [], _∷_, _++_, map, map-append, append-assoc, append-nil}
 use lib.ListN.{length, take, drop, length-append, length-take, length-drop, drop-of-length-le}
 use lib.Seq.{take-all, take-at, drop-at, drop-drop}
 use lib.Dec.{eqb}
@@ -28,13 +28,9 @@ use Rattle.runs.specs.Runs.{recordCount, recordAt, recordsOf, linesOf, R
 
 -- ---- records
 
-map-more : {A B : Type 0} (f : A → B) (xs : List A) (y : A) → map f (xs ++ (y ∷ [])) ≡ map f xs ++ (f y ∷ [])
-map-more f [] y = refl
-map-more f (x ∷ xs) y = ap (λ l. f x ∷ l) (map-more f xs y)
-
 pub records-more : (bytes : List ℕ) (i : ℕ) → recordsOf bytes (i + 1) ≡ recordsOf bytes i ++ (recordAt bytes i ∷ [])
 unfolding below
-records-more bytes i = rw add-one (map-more (recordAt bytes) (below i) i)
+records-more bytes i = rw add-one (map-append (recordAt bytes) (below i) (i ∷ []))
 
 -- the part of the events that is lent for record i
 pub record-part : (bytes : List ℕ) (i e : ℕ) → e ≡ min (12 * i + 12) (length bytes) → take (e - 12 * i) (drop (12 * i) bytes) ≡ recordAt bytes i
