@@ -20,7 +20,7 @@ use Rattle.startup.specs.Answers.{Begun}
 use Rattle.runs.specs.Runs.{Ran, Finished, ran, linesAfter}
 use Rattle.startup.specs.declared.Started.{Started}
 use Rattle.runs.specs.declared.Ended.{Ended}
-use Rattle.runs.proofs.Longer.{text-length}
+use Rattle.batches.proofs.Longer.{text-length}
 use Rattle.embed.specs.Interface.{deskRan, Served, refusalWritten, deskLines}
 
 -- ---- the line of a refusal

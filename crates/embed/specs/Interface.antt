@@ -6,22 +6,18 @@ use mathlib.Core.List.{List, _++_}
 use lib.ListN.{length, drop}
 use lib.Dec.{eqb, ltb}
 use Rattle.sheet.specs.Sheet.{settingsOf}
-use Rattle.model.specs.Answers.{Line, refusalLine, answerLine, textOf}
+use Rattle.model.specs.Answers.{refusalLine, answerLine, textOf}
 use Rattle.model.specs.Step.{saved}
 use Rattle.model.specs.Step as Step
 use Rattle.model.specs.Run.{fresh}
 use Rattle.model.specs.Doors as Doors
 use Rattle.model.specs.Doors.{zeroState, refusedStart}
+use Rattle.numbers.specs.Numbers.{numbersOf}
 use Rattle.runs.specs.Runs.{Ran, ran, linesAfter}
-use Rattle.embed.specs.declared.Numbers.{Numbers}
 use Rattle.embed.specs.declared.Opening.{Opening}
 use Rattle.embed.specs.declared.Reply.{Reply}
 use Rattle.embed.specs.declared.Report.{Report}
 use Rattle.embed.specs.declared.Service.{Service}
-
--- the line that four numbers are
-abbrev pub numbersOf : Numbers → Line
-numbersOf n = record { refusal = n .refusal; mode = n .mode; partition = n .partition; thread = n .thread }
 
 -- start answered r and left the history h, and the model says a
 pub record Opened (r : Opening) (h : List ℕ) (a : Doors.Started) : Type 0 where

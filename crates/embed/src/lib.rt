@@ -2,15 +2,15 @@
 // and a length to C. The answers' enums cross as the paper's numbers; each contract is that of the door behind it.
 ghost use mathlib.Core.Path.{_≡_};
 ghost use lib.ListN.{length};
-ghost use Rattle.refusals.specs.Refusals.{numberOf, outcomeOf};
-ghost use Rattle.model.specs.Answers.{lineOf};
+ghost use Rattle.refusals.specs.Refusals.{numberOf};
 ghost use Rattle.model.specs.Step as Step;
 ghost use Rattle.model.specs.Step.{saved};
 ghost use Rattle.model.specs.Doors as Doors;
 ghost use Rattle.runs.specs.Runs.{ran, linesAfter};
-ghost use Rattle.embed.specs.Interface.{numbersOf, Opened, Replied, Reported, refusalWritten, Served, deskLines};
+ghost use Rattle.embed.specs.Interface.{Opened, Replied, Reported, refusalWritten, Served, deskLines};
 use model::State;
 use model::Verdict;
+use numbers::Numbers;
 use refusals::Outcome;
 use refusals::Refusal;
 
@@ -19,15 +19,6 @@ use refusals::Refusal;
 pub struct Opening {
     pub refusal: u8,
     pub state: State,
-}
-
-// The four numbers of a line of the desk program.
-#[repr(C)]
-pub struct Numbers {
-    pub refusal: u8,
-    pub mode: u8,
-    pub partition: u8,
-    pub thread: u8,
 }
 
 // What an event is answered, and the state for the next one.
@@ -52,39 +43,6 @@ pub struct Service {
     pub taken: usize,
 }
 
-// ---- numbers for enums
-
-fn outcome_number(outcome: Outcome) -> u8
-    ensures { λ r. ⌜ r ≡ outcomeOf outcome ⌝ }
-{
-    match outcome {
-        Outcome::Accepted => 0,
-        Outcome::Refused(refusal) => refusals::number(refusal),
-    }
-}
-
-fn verdict_numbers(verdict: Verdict) -> Numbers
-    ensures { λ r. ⌜ numbersOf r ≡ lineOf verdict ⌝ }
-{
-    match verdict {
-        Verdict::Decided(d) => {
-            let mode = d.mode;
-            Numbers {
-                refusal: 0,
-                mode: lines::mode_number(mode),
-                partition: d.partition,
-                thread: d.thread,
-            }
-        }
-        Verdict::Refused(refusal) => Numbers {
-            refusal: refusals::number(refusal),
-            mode: 0,
-            partition: 0,
-            thread: 0,
-        },
-    }
-}
-
 // ---- a state that the caller keeps
 
 // A fresh start from a sheet's bytes, beside a lent history.
@@ -96,7 +54,7 @@ pub extern "C" fn sapling_start(sheet: &[u8], history: &mut [u32]) -> Opening
     let outcome = started.outcome;
     let state = started.state;
     Opening {
-        refusal: outcome_number(outcome),
+        refusal: numbers::outcome_number(outcome),
         state: state,
     }
 }
@@ -108,7 +66,7 @@ pub extern "C" fn sapling_event(s: State, history: &mut [u32], event: &[u8]) -> 
 {
     let answer = scheduler::event(s, history, event);
     let verdict = answer.verdict;
-    let numbers = verdict_numbers(verdict);
+    let numbers = numbers::verdict_numbers(verdict);
     let state = answer.state;
     Reply {
         numbers: numbers,
@@ -133,7 +91,7 @@ pub extern "C" fn sapling_run(
     let outcome = ended.outcome;
     let state = ended.state;
     Report {
-        refusal: outcome_number(outcome),
+        refusal: numbers::outcome_number(outcome),
         taken: ended.taken,
         state: state,
     }
@@ -180,7 +138,7 @@ pub extern "C" fn sapling_desk(
             let ended = runs::run(state, history, events, out);
             let end = ended.outcome;
             Service {
-                refusal: outcome_number(end),
+                refusal: numbers::outcome_number(end),
                 taken: ended.taken,
             }
         }

@@ -1,33 +1,16 @@
 -- What a run of many events does: records from a slice of bytes, lines into a slice of bytes.
-use Prim.Native.Nat.{ℕ, _+_, _*_, _/_, min}
+use Prim.Native.Nat.{ℕ, _*_, _/_, min}
 use mathlib.Core.Path.{_≡_}
 use mathlib.Core.Bool.{cond}
-use mathlib.Core.List.{List, [], _∷_, _++_, map}
-use lib.ListN.{length, take, drop}
+use mathlib.Core.List.{List, _++_}
+use lib.ListN.{length, drop}
 use lib.Dec.{eqb}
-use Rattle.lists.specs.Lists.{below}
 use Rattle.refusals.specs.Refusals.{outcomeOf}
 use Rattle.model.specs.Event.{refusedState}
 use Rattle.model.specs.Step.{Saved, saved}
-use Rattle.model.specs.Run.{Entry, run, after}
-use Rattle.model.specs.Answers.{answerLine, textOf}
+use Rattle.model.specs.Run.{run, after}
+use Rattle.batches.specs.Batches.{recordCount, recordsOf, linesOf}
 use Rattle.runs.specs.declared.Ended.{Ended}
-
--- the records of a stream: whole ones of twelve bytes, and what is left of a cut one at the end
-abbrev pub recordCount : List ℕ → ℕ
-recordCount bytes = (length bytes + 11) / 12
-
-abbrev pub recordAt : List ℕ → ℕ → List ℕ
-recordAt bytes i = take 12 (drop (12 * i) bytes)
-
--- the first n of them
-abbrev pub recordsOf : List ℕ → ℕ → List (List ℕ)
-recordsOf bytes n = map (recordAt bytes) (below n)
-
--- the lines of the answers, one after the other
-unfoldable pub linesOf : List Entry → List ℕ
-linesOf [] = []
-linesOf (e ∷ es) = textOf (answerLine (e .answer)) ++ linesOf es
 
 -- what a run answers, in the paper's numbers, with the state and the history that it leaves
 pub record Ran : Type 0 where

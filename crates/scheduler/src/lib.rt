@@ -2,7 +2,6 @@
 // state and all lent memory as they were. `step` is for a caller that knows its state to be sound, and has to prove it.
 ghost use mathlib.Core.Path.{_≡_};
 ghost use Rattle.model.specs.Event.{refusedState, refused};
-ghost use Rattle.model.specs.Facts.{Accepted};
 ghost use Rattle.model.specs.Step as Step;
 ghost use Rattle.model.specs.Step.{saved};
 ghost use Rattle.scheduler.specs.Answers.{Answered};
@@ -16,29 +15,12 @@ pub struct Answer {
     pub state: State,
 }
 
-// Steps 1 and 2 of an accepted event: the charge and the action of its kind; or a resume.
-fn apply(s: State, history: &mut [u32], event: &[u8]) -> State
-    requires { ⌜ Accepted s (now history) (now event) ⌝ }
-    ensures { λ r. ⌜ saved r (now (history .exit)) ≡ Step.apply (saved s (now (history .entry))) (now (event .entry)) ⌝ }
-{
-    let kind = event[0];
-    let stamp = events::stamp_of(event);
-    if kind == 7 {
-        return window::restart(s, history, stamp);
-    }
-    let t = window::charge(s, history, stamp);
-    if kind == 1 {
-        return window::move_slot(t, history);
-    }
-    actions::act(t, event)
-}
-
 // All three steps: what was decided is the answer, and the thread chosen runs.
 fn accept(s: State, history: &mut [u32], event: &[u8]) -> Answer
     requires { ⌜ refused s (now history) (now event) ≡ 0 ⌝ }
     ensures { λ r. ⌜ Answered r (now (history .exit)) (Step.answer (saved s (now (history .entry))) (now (event .entry))) ⌝ }
 {
-    let mut t = apply(s, history, event);
+    let mut t = effects::apply(s, history, event);
     let decision = election::decide(t);
     t.running = decision.thread;
     Answer {

@@ -22,12 +22,13 @@ use Rattle.model.specs.declared.State.{State}
 use Rattle.model.specs.declared.Mode.the-variants.{Idle, FreeTime, Underload, AtLimit}
 use Rattle.model.specs.declared.Decision.{Decision}
 use Rattle.scheduler.specs.Answers.{Answered}
-use Rattle.runs.specs.Runs.{recordsOf, linesOf, Ran, Finished, takenBy, ran, linesAfter}
+use Rattle.batches.specs.Batches.{recordsOf, linesOf}
+use Rattle.runs.specs.Runs.{Ran, Finished, takenBy, ran, linesAfter}
 use Rattle.sessions.specs.Calls.{Call, Calls, leftBy, bytesOf, entriesOf, callLines, AsCalls, RunIsCalls}
 use Rattle.scheduler.specs.declared.Answer.{Answer}
 use Rattle.runs.specs.declared.Ended.{Ended}
 use Rattle.scheduler.proofs.Laws.{answer-no, answer-yes}
-use Rattle.runs.proofs.Longer.{nothing-taken, nothing-written}
+use Rattle.batches.proofs.Longer.{nothing-taken, nothing-written}
 use Rattle.sessions.proofs.Calls.{calls-are-run}
 
 -- ---- every event has an answer that the contract of `event` allows

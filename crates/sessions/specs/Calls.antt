@@ -25,7 +25,8 @@ use Rattle.guarantee.specs.Ledger.{ledgerOf}
 use Rattle.guarantee.specs.Account.{Accounted, decisionsFrom}
 use Rattle.startup.specs.Answers.{Begun}
 use Rattle.scheduler.specs.Answers.{Answered}
-use Rattle.runs.specs.Runs.{recordsOf, Finished, ran, linesAfter}
+use Rattle.batches.specs.Batches.{recordsOf}
+use Rattle.runs.specs.Runs.{Finished, ran, linesAfter}
 use Rattle.scheduler.specs.declared.Answer.{Answer}
 use Rattle.startup.specs.declared.Started.{Started}
 use Rattle.runs.specs.declared.Ended.{Ended}

@@ -4,7 +4,7 @@ use native.Mathlib.Omega.{arith}
 use lib.ListN.{length}
 use lib.Seq.{length-take-le}
 use denote.Ref.{now}
-use Rattle.runs.proofs.Longer.{lines-fit}
+use Rattle.runs.proofs.Laws.{lines-fit}
 use borrow.Author.Needs.{needs}
 use Rattle.desk.proofs.serve_chunk.Statement.{statement}
 use Rattle.desk.proofs.serve_chunk.Tie as tie

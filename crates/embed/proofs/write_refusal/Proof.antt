@@ -4,7 +4,7 @@ use lib.ListN.{length, length-take}
 use denote.Ref.{now}
 use borrow.Author.Tests.{lt-ltb}
 use Rattle.refusals.specs.Refusals.{numberOf}
-use Rattle.runs.proofs.Longer.{text-length}
+use Rattle.batches.proofs.Longer.{text-length}
 use Rattle.embed.specs.Interface.{refusalWritten}
 use Rattle.embed.proofs.Laws.{line-written}
 use borrow.Author.Needs.{needs}

@@ -3,7 +3,7 @@ use native.Mathlib.Omega.{arith}
 use denote.Ref.{now}
 use Rattle.refusals.specs.Refusals.{outcomeOf}
 use Rattle.model.specs.Event.{refusedState}
-use Rattle.runs.proofs.Longer.{run-refused, run-taken}
+use Rattle.runs.proofs.Laws.{run-refused, run-taken}
 use borrow.Author.Needs.{needs}
 use Rattle.runs.proofs.run.Statement.{statement}
 use Rattle.runs.proofs.run.Tie as tie

@@ -1,11 +1,9 @@
 -- A run, one record more: its records, its state and history, its lines.
 use mathlib.Core.Path.{_≡_, refl, sym, ap, ap₂, _∙_}
-use Prim.Native.Nat.{ℕ, suc, _+_, _-_, _*_, _/_, _≤_, min}
-use mathlib.Core.Bool.{Bool, true, false, cond}
+use Prim.Native.Nat.{ℕ, suc, _+_, _-_, _*_, _≤_, min}
 use mathlib.Core.List.{List, [], _∷_, _++_, map, map-append, append-assoc, append-nil}
 use lib.ListN.{length, take, drop, length-append, length-take, length-drop, drop-of-length-le}
 use lib.Seq.{take-all, take-at, drop-at, drop-drop}
-use lib.Dec.{eqb}
 use native.Mathlib.Omega.{arith}
 use native.Mathlib.Numerals.{add-one}
 use native.Mathlib.Decide.{decLe}
@@ -13,18 +11,11 @@ use Rattle.lists.specs.Lists.{below}
 use Rattle.lists.proofs.Tables.{table-length}
 use Rattle.records.specs.Records.{digitsOf}
 use Rattle.sheet.specs.declared.Settings.{Settings}
-use Rattle.refusals.specs.Refusals.{numberOf, outcomeOf}
-use Rattle.refusals.specs.declared.Refusal.{Refusal}
-use Rattle.refusals.specs.declared.Outcome.{Outcome}
-use Rattle.refusals.specs.declared.Outcome.the-variants.{Accepted, Refused}
-use Rattle.refusals.proofs.Laws.{never-zero}
-use Rattle.model.specs.Event.{refusedState}
-use Rattle.model.specs.Step.{Saved, saved, Answer, answer}
-use Rattle.model.specs.declared.State.{State}
+use Rattle.model.specs.Step.{Saved, Answer, answer}
 use Rattle.model.specs.Run.{Entry, run, after}
 use Rattle.model.specs.Answers.{Line, answerLine, textOf}
 use Rattle.guarantee.proofs.Answered.{Good, good-answer}
-use Rattle.runs.specs.Runs.{recordCount, recordAt, recordsOf, linesOf, Ran, Finished, takenBy, ran, linesAfter}
+use Rattle.batches.specs.Batches.{recordAt, recordsOf, linesOf}
 
 -- ---- records
 
@@ -137,31 +128,3 @@ line-put done line out first part i k d l o r e p =
 pub put-length : (done line first : List ℕ) (i : ℕ) → length done ≡ 12 * i → length line ≡ 12 → 12 * i + 12 ≤ length first
     → length ((done ++ line) ++ drop (12 * (i + 1)) first) ≡ length first
 put-length done line first i d l r = simp (length-append, length-drop) (omega arith)
-
--- ---- what a run answers
-
-module _ (s : State) (h events out : List ℕ) where
-  abbrev v : Saved
-  v = saved s h
-
-  pub run-refused : (o : Outcome) (r : Refusal) → o ≡ Refused r → outcomeOf o ≡ refusedState s h
-      → Finished (record { outcome = Refused r; taken = 0; state = s }) h (ran v events (length out)) × (out ≡ linesAfter v events out)
-  unfolding ran linesAfter
-  run-refused o r e n =
-      let k : refusedState s h ≡ numberOf r = sym n ∙ ap outcomeOf e in
-      rw (k, never-zero r) (record { refusal = refl; taken = refl; after = refl }, refl)
-
-  pub run-taken : refusedState s h ≡ 0 → (n : ℕ) → n ≡ min (recordCount events) (length out / 12) → (t : State) (h′ out′ : List ℕ)
-      → saved t h′ ≡ after v (recordsOf events n) → out′ ≡ linesOf (run v (recordsOf events n)) ++ drop (12 * n) out
-      → Finished (record { outcome = Accepted; taken = n; state = t }) h′ (ran v events (length out)) × (out′ ≡ linesAfter v events out)
-  unfolding ran linesAfter takenBy
-  run-taken e n f t h′ out′ a l = rw (e, ← f) (record { refusal = refl; taken = refl; after = a }, l)
-
--- the lines of what was taken fit the lent slice
-either : (room : ℕ) (b : Bool) (x y : Ran) → 12 * x .taken ≤ room → 12 * y .taken ≤ room → 12 * cond {A = Ran} b x y .taken ≤ room
-either room true x y h k = h
-either room false x y h k = k
-
-pub lines-fit : (w : Saved) (events : List ℕ) (room : ℕ) → 12 * ran w events room .taken ≤ room
-unfolding ran takenBy
-lines-fit w events room = either room (eqb (refusedState (w .state) (w .history)) 0) _ _ (omega arith) (omega arith)

@@ -3,10 +3,10 @@ use denote.Ref.{now}
 use Rattle.model.specs.Event.{stampOf}
 use Rattle.model.specs.Step.{saved, charge, moveSlot, restart}
 use Rattle.model.proofs.Shape.{shaped}
-use Rattle.scheduler.proofs.Laws.{can-move, can-act, applied-resume, applied-tick, applied-other}
+use Rattle.effects.proofs.Laws.{can-move, can-act, applied-resume, applied-tick, applied-other}
 use borrow.Author.Needs.{needs}
-use Rattle.scheduler.proofs.apply.Statement.{statement}
-use Rattle.scheduler.proofs.apply.Tie as tie
+use Rattle.effects.proofs.apply.Statement.{statement}
+use Rattle.effects.proofs.apply.Tie as tie
 
 -- what stands after the charge
 after : (c : tie.After-charge) → saved (c .charge .result) (c .charge .last .1 .0)

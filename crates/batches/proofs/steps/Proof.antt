@@ -11,10 +11,10 @@ use Rattle.model.specs.Run.{run, after}
 use Rattle.model.specs.Answers.{textOf}
 use Rattle.model.proofs.Shape.{shaped}
 use Rattle.model.proofs.Accepted.{fit-of, of-fit}
-use Rattle.runs.specs.Runs.{recordsOf, linesOf}
-use Rattle.runs.proofs.Longer.{nothing-taken, nothing-written, good-after, record-part, state-next, lines-next, line-put, put-length, text-length, run-lines-length}
-use Rattle.runs.proofs.steps.Statement.{statement}
-use Rattle.runs.proofs.steps.Tie as tie
+use Rattle.batches.specs.Batches.{recordsOf, linesOf}
+use Rattle.batches.proofs.Longer.{nothing-taken, nothing-written, good-after, record-part, state-next, lines-next, line-put, put-length, text-length, run-lines-length}
+use Rattle.batches.proofs.steps.Statement.{statement}
+use Rattle.batches.proofs.steps.Tie as tie
 
 abbrev Inv-loop : tie.InvT-loop
 Inv-loop history₀ events out₀ n t₀ i₀ history out t i =

@@ -1,9 +1,9 @@
 use native.Mathlib.Omega.{arith}
 use denote.Ref.{now}
-use Rattle.window.proofs.Laws.{Pays, pays, charged-idle, charged-to}
+use Rattle.charging.proofs.Laws.{Pays, pays, charged-idle, charged-to}
 use borrow.Author.Needs.{needs}
-use Rattle.window.proofs.charge.Statement.{statement}
-use Rattle.window.proofs.charge.Tie as tie
+use Rattle.charging.proofs.charge.Statement.{statement}
+use Rattle.charging.proofs.charge.Tie as tie
 
 -- what is known where a partition pays
 known : (c : tie.Else1) → Pays (c .before .before .before .before .args .t1) (now (c .before .before .before .before .args .history)) (c .before .before .elapsed .result .0)
