@@ -5,7 +5,7 @@ use mathlib.Core.List.{List}
 use lib.ListN.{length}
 use Rattle.model.specs.Event.{kindOf, threadOf, create, ready, end}
 use Rattle.model.specs.declared.State.{State}
-use Rattle.queue.specs.Entries.{Room}
+use Rattle.queue.specs.Room.{Room}
 
 -- what an accepted event on a sound state has: twelve bytes, a thread number below 64 where the kind names a thread, and room in the queue
 -- for a thread that becomes ready

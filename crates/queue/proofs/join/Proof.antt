@@ -1,5 +1,5 @@
 use Rattle.model.proofs.Shape.{shaped}
-use Rattle.queue.specs.Entries.{queueFrom}
+use Rattle.entries.specs.Entries.{queueFrom}
 use Rattle.queue.proofs.Laws.{room-from}
 use borrow.Author.Needs.{needs}
 use Rattle.queue.proofs.join.Statement.{statement}

@@ -1,4 +1,4 @@
-use Rattle.queue.specs.Entries.{queueFrom}
+use Rattle.entries.specs.Entries.{queueFrom}
 use borrow.Author.Needs.{needs}
 use Rattle.queue.proofs.leave.Statement.{statement}
 use Rattle.queue.proofs.leave.Tie as tie

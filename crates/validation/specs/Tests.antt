@@ -1,5 +1,5 @@
 -- The four tests of an event of a known form, each over what it needs of the state. The model's are these at the state's own numbers
--- (proofs/Laws).
+-- (admission's proofs/Laws).
 use Prim.Native.Nat.{ℕ, _+_, _*_}
 use mathlib.Core.Bool.{Bool, not, cond, _&&_, _||_}
 use mathlib.Core.List.{List}

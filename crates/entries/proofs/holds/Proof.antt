@@ -6,8 +6,8 @@ use borrow.Author.Needs.{needs}
 use lib.ListN.{length, take}
 use Rattle.lists.specs.Lists.{any, member}
 use Rattle.lists.proofs.Loops.{take-min, member-here, member-next}
-use Rattle.queue.proofs.holds.Statement.{statement}
-use Rattle.queue.proofs.holds.Tie as tie
+use Rattle.entries.proofs.holds.Statement.{statement}
+use Rattle.entries.proofs.holds.Tie as tie
 
 -- thread t is none of the entries read
 abbrev Inv-loop : tie.InvT-loop

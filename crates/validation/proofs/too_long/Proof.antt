@@ -6,10 +6,10 @@ use denote.Ref.{now}
 use Rattle.model.specs.Event.{known, kindOf}
 use Rattle.events.specs.declared.Action.the-variants.{Resume}
 use Rattle.events.proofs.Told.{told, told-not}
-use Rattle.admission.proofs.Laws.{never-long, long-by}
+use Rattle.validation.proofs.Laws.{never-long, long-by}
 use borrow.Author.Needs.{needs}
-use Rattle.admission.proofs.too_long.Statement.{statement}
-use Rattle.admission.proofs.too_long.Tie as tie
+use Rattle.validation.proofs.too_long.Statement.{statement}
+use Rattle.validation.proofs.too_long.Tie as tie
 
 stamp-of-requires : tie.Need-stamp-of-requires
 stamp-of-requires c κs = search needs

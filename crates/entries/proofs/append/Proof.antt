@@ -1,7 +1,7 @@
-use Rattle.queue.proofs.Laws.{appended}
+use Rattle.entries.proofs.Laws.{appended}
 use borrow.Author.Needs.{needs}
-use Rattle.queue.proofs.append.Statement.{statement}
-use Rattle.queue.proofs.append.Tie as tie
+use Rattle.entries.proofs.append.Statement.{statement}
+use Rattle.entries.proofs.append.Tie as tie
 
 cast-n : tie.Need-cast-n
 cast-n c = search needs

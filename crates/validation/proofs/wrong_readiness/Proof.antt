@@ -6,10 +6,10 @@ use denote.Ref.{now}
 use Rattle.model.specs.Event.{known, kindOf}
 use Rattle.events.specs.declared.Action.the-variants.{Ready, Block}
 use Rattle.events.proofs.Told.{told, told-not}
-use Rattle.admission.proofs.Laws.{readiness-ready, readiness-block, readiness-none}
+use Rattle.validation.proofs.Laws.{readiness-ready, readiness-block, readiness-none}
 use borrow.Author.Needs.{needs}
-use Rattle.admission.proofs.wrong_readiness.Statement.{statement}
-use Rattle.admission.proofs.wrong_readiness.Tie as tie
+use Rattle.validation.proofs.wrong_readiness.Statement.{statement}
+use Rattle.validation.proofs.wrong_readiness.Tie as tie
 
 shared-slice-read-action-of : tie.Need-shared-slice-read-action-of
 shared-slice-read-action-of c = search needs

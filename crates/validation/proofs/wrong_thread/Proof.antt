@@ -1,10 +1,10 @@
 use Rattle.model.specs.Event.{namesPlace}
 use Rattle.events.specs.Kinds.{usesOf}
-use Rattle.admission.specs.Tests.{threadRefused}
-use Rattle.admission.proofs.Laws.{same-flags}
+use Rattle.validation.specs.Tests.{threadRefused}
+use Rattle.validation.proofs.Laws.{same-flags}
 use borrow.Author.Needs.{needs}
-use Rattle.admission.proofs.wrong_thread.Statement.{statement}
-use Rattle.admission.proofs.wrong_thread.Tie as tie
+use Rattle.validation.proofs.wrong_thread.Statement.{statement}
+use Rattle.validation.proofs.wrong_thread.Tie as tie
 
 shared-slice-read-uses-of : tie.Need-shared-slice-read-uses-of
 shared-slice-read-uses-of c = search needs

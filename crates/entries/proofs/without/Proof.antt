@@ -7,11 +7,11 @@ use lib.ListN.{length, take}
 use Rattle.lists.specs.Lists.{keep}
 use Rattle.lists.proofs.Loops.{take-min}
 use Rattle.model.specs.Step.{leaves}
-use Rattle.queue.specs.declared.Queue.{Queue}
-use Rattle.queue.specs.Entries.{queueFrom}
-use Rattle.queue.proofs.Laws.{empty, fits-byte, kept-few, left-more}
-use Rattle.queue.proofs.without.Statement.{statement}
-use Rattle.queue.proofs.without.Tie as tie
+use Rattle.entries.specs.declared.Queue.{Queue}
+use Rattle.entries.specs.Entries.{queueFrom}
+use Rattle.entries.proofs.Laws.{empty, fits-byte, kept-few, left-more}
+use Rattle.entries.proofs.without.Statement.{statement}
+use Rattle.entries.proofs.without.Tie as tie
 
 -- what is kept so far is the queue of the entries read, without thread t
 abbrev Inv-loop : tie.InvT-loop

@@ -1,9 +1,9 @@
 use Rattle.model.specs.Event.{namesPlace}
 use Rattle.events.specs.Kinds.{usesOf}
-use Rattle.admission.specs.Tests.{placeRefused}
+use Rattle.validation.specs.Tests.{placeRefused}
 use borrow.Author.Needs.{needs}
-use Rattle.admission.proofs.wrong_place.Statement.{statement}
-use Rattle.admission.proofs.wrong_place.Tie as tie
+use Rattle.validation.proofs.wrong_place.Statement.{statement}
+use Rattle.validation.proofs.wrong_place.Tie as tie
 
 shared-slice-read-uses-of : tie.Need-shared-slice-read-uses-of
 shared-slice-read-uses-of c = search needs
