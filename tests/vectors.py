@@ -23,6 +23,9 @@ OPENED = [
     ("model", "Run"), ("model", "Answers"),
 ]
 
+# the crates that they stand on
+BELOW = ["lists", "refusals", "units", "limits", "records", "order", "sheet", "model"]
+
 HEAD = """-- Written by tests/vectors.py.
 use Prim.Native.Nat.{ℕ}
 use mathlib.Core.Path.{_≡_, refl}
@@ -78,13 +81,14 @@ def main():
     names = sys.argv[1:] or sorted(p.name for p in VECTORS.iterdir() if p.is_dir())
     with tempfile.TemporaryDirectory() as folder:
         copy = Path(folder)
-        shutil.copytree(ROOT / "crates", copy / "crates")
-        if (ROOT / "target").exists():
-            for part in ("rlib", "stamp", "inc", "log"):
-                if (ROOT / "target" / part).exists():
-                    shutil.copytree(ROOT / "target" / part, copy / "target" / part)
-        listed = (ROOT / "crates.txt").read_text()
-        (copy / "crates.txt").write_text(listed + "\nvectors: lists refusals units limits records order sheet model\n")
+        (copy / "target/stamp").mkdir(parents=True)
+        for name in BELOW:
+            shutil.copytree(ROOT / "crates" / name, copy / "crates" / name)
+            if (ROOT / "target/stamp" / name).exists():
+                shutil.copytree(ROOT / f"target/rlib/{name}.rlib", copy / f"target/rlib/{name}.rlib")
+                shutil.copy2(ROOT / "target/stamp" / name, copy / "target/stamp" / name)
+        listed = [line for line in (ROOT / "crates.txt").read_text().splitlines() if line.split(":")[0] in BELOW]
+        (copy / "crates.txt").write_text("\n".join(listed + ["vectors: " + " ".join(BELOW)]) + "\n")
         crate = copy / "crates/vectors"
         (crate / "src").mkdir(parents=True)
         (crate / "specs").mkdir()

@@ -14,7 +14,7 @@ use Rattle.sheet.specs.declared.Settings.{Settings}
 use Rattle.model.specs.Step.{Saved, Answer, answer}
 use Rattle.model.specs.Run.{Entry, run, after}
 use Rattle.model.specs.Answers.{Line, answerLine, textOf}
-use Rattle.guarantee.proofs.Answered.{Good, good-answer}
+use Rattle.invariants.proofs.Answered.{Good, good-answer}
 use Rattle.batches.specs.Batches.{recordAt, recordsOf, linesOf}
 
 -- ---- records

@@ -14,9 +14,9 @@ use Rattle.model.specs.Event.{kindOf, threadOf, stampOf}
 use Rattle.model.specs.Facts.{Settled, Accepted}
 use Rattle.model.specs.Step.{Saved, saved, charge, moveSlot, restart, act, apply}
 use Rattle.model.specs.declared.State.{State}
-use Rattle.guarantee.proofs.Acts.{act-settled}
-use Rattle.guarantee.proofs.Kept.{charge-settled, length-charge}
-use Rattle.guarantee.proofs.Applied.{named}
+use Rattle.invariants.proofs.Acts.{act-settled}
+use Rattle.invariants.proofs.Kept.{charge-settled, length-charge}
+use Rattle.invariants.proofs.Applied.{named}
 use Rattle.actions.specs.Able.{Able}
 use Rattle.actions.proofs.Laws.{act-ready}
 

@@ -35,23 +35,24 @@ use Rattle.guarantee.specs.Demand3 as demand
 use Rattle.guarantee.specs.Demand3.{Last, chargeOf}
 use Rattle.guarantee.specs.Ledger.{addFirst, ledger, acceptedOf}
 use Rattle.guarantee.specs.Account.{recordFrom, queueBy, queueFrom, stampFrom, elapsedFrom, sinceFrom, ticksFrom, slotFrom, picture, decisionOf, chargeBy, periodsBy, periodsFrom, usedFrom, decisionFrom, decisionsFrom, ageOf, Accounted, Account, Answers}
-use Rattle.guarantee.specs.Promises.{idleDecision}
-use Rattle.guarantee.specs.Scheduler.{share, Moved}
+use Rattle.invariants.specs.Promises.{idleDecision}
+use Rattle.invariants.specs.Charges.{share}
+use Rattle.guarantee.specs.Scheduler.{Moved}
 use Rattle.guarantee.proofs.Window.{newest-le-sum, window}
-use Rattle.guarantee.proofs.Books.{share-outside}
-use Rattle.guarantee.proofs.Acts.{act-since}
-use Rattle.guarantee.proofs.Kept.{billed-inside}
-use Rattle.guarantee.proofs.Applied.{Left, apply-cases, after-left}
-use Rattle.guarantee.proofs.Answered.{Good, accepts, answer-accepted, answer-refused, accepted, good-settle}
+use Rattle.invariants.proofs.Books.{share-outside}
+use Rattle.invariants.proofs.Acts.{act-since}
+use Rattle.invariants.proofs.Kept.{billed-inside}
+use Rattle.invariants.proofs.Applied.{Left, apply-cases, after-left}
+use Rattle.invariants.proofs.Answered.{Good, accepts, answer-accepted, answer-refused, accepted, good-settle}
 use Rattle.guarantee.proofs.Instance.{kindFor, rows, good-slot, good-row, good-moved}
-use Rattle.guarantee.proofs.Decision.{idle-exactly}
-use Rattle.guarantee.proofs.Fresh.{start-of, start-good}
+use Rattle.invariants.proofs.Decision.{idle-exactly}
+use Rattle.invariants.proofs.Fresh.{start-of, start-good}
 use Rattle.guarantee.proofs.Log.{accepted-is}
 use Rattle.guarantee.proofs.Agrees.{Agrees, agrees, charge-is}
 use Rattle.guarantee.proofs.Periods.{filled}
 use Rattle.guarantee.proofs.Ledgers.{newestFirst, ledger-is}
 use Rattle.guarantee.proofs.Totals.{used-is, fresh-row}
-use Rattle.guarantee.proofs.Zeros.{zeros-length}
+use Rattle.invariants.proofs.Zeros.{zeros-length}
 use Rattle.guarantee.proofs.Looks.{decide-same, decide-settle}
 use Rattle.guarantee.proofs.Ages.{window-at, period-at}
 use Rattle.guarantee.proofs.Told.{recordAfter, after-record, after-queue}

@@ -17,10 +17,11 @@ use Rattle.model.specs.declared.State.{State}
 use Rattle.model.specs.Facts.{Settled}
 use Rattle.guarantee.specs.Demand3 as demand
 use Rattle.guarantee.specs.Demand3.{Last, lastOf, elapsedSince, chargeOf, chargedTo}
-use Rattle.guarantee.specs.Scheduler.{share, charged}
-use Rattle.guarantee.proofs.Decision.{decide-picks, decide-idle}
-use Rattle.guarantee.proofs.Applied.{apply-left, after-left}
-use Rattle.guarantee.proofs.Answered.{Good, accepted, good-answer}
+use Rattle.invariants.specs.Charges.{share}
+use Rattle.guarantee.specs.Scheduler.{charged}
+use Rattle.invariants.proofs.Decision.{decide-picks, decide-idle}
+use Rattle.invariants.proofs.Applied.{apply-left, after-left}
+use Rattle.invariants.proofs.Answered.{Good, accepted, good-answer}
 use Rattle.guarantee.proofs.Instance.{model, billed-winner}
 use Rattle.guarantee.proofs.Log.{Log, translated, translate, accepted-is, when-accepted, when-refused}
 

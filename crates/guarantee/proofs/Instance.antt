@@ -25,15 +25,17 @@ use Rattle.model.specs.declared.State.{State}
 use Rattle.model.specs.Facts.{Settled, Sound, Accepted}
 use Rattle.sheet.proofs.Within.{budgets}
 use Rattle.model.proofs.Bounds.{next-inside}
-use Rattle.guarantee.specs.Scheduler.{Kind, tick, resume, other, Scheduler, share, History, Moved, Step, Lawful}
+use Rattle.invariants.specs.Charges.{share}
+use Rattle.guarantee.specs.Scheduler.{Kind, tick, resume, other, Scheduler, History, Moved, Step, Lawful}
 use Rattle.guarantee.specs.Scheduler as abstract
-use Rattle.guarantee.proofs.Charges.{row-charge, row-clear}
-use Rattle.guarantee.proofs.Winner.{winner-has}
-use Rattle.guarantee.proofs.Decision.{competes-allowed, decide-picks, decide-idle, none-allowed}
-use Rattle.guarantee.proofs.Kept.{billed-inside}
-use Rattle.guarantee.proofs.Acts
-use Rattle.guarantee.proofs.Applied.{apply-cases, Left, apply-left, after-sound}
-use Rattle.guarantee.proofs.Answered.{Good, accepts, accepted, good-settle}
+use Rattle.invariants.specs.Charges as booked
+use Rattle.invariants.proofs.Charges.{row-charge, row-clear}
+use Rattle.invariants.proofs.Winner.{winner-has}
+use Rattle.invariants.proofs.Decision.{competes-allowed, decide-picks, decide-idle, none-allowed}
+use Rattle.invariants.proofs.Kept.{billed-inside}
+use Rattle.invariants.proofs.Acts
+use Rattle.invariants.proofs.Applied.{apply-cases, Left, apply-left, after-sound}
+use Rattle.invariants.proofs.Answered.{Good, accepts, accepted, good-settle}
 
 abbrev pub kindFor : ℕ → Kind
 kindFor k = cond (eqb k Event.tick) tick (cond (eqb k Event.resume) resume other)
@@ -146,7 +148,7 @@ module _ (v : Saved) (b : List ℕ) (inside : v .state .slot .0 < W (v .state .s
   abbrev cost : ℕ → ℕ
   cost q = share (billed s) q (elapsedAt s b)
 
-  charge-row : (q : ℕ) → row-of w (charged .history) q ≡ abstract.charge slot (cost q) (row-of w (v .history) q)
+  charge-row : (q : ℕ) → row-of w (charged .history) q ≡ booked.charge slot (cost q) (row-of w (v .history) q)
   unfolding charge
   charge-row q = row-charge s (billed s) (elapsedAt s b) (v .history) q inside
 

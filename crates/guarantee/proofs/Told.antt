@@ -16,10 +16,10 @@ use Rattle.model.specs.declared.Thread.{Thread}
 use Rattle.model.specs.declared.State.{State}
 use Rattle.model.specs.Facts.{threadAt, Accepted, Named}
 use Rattle.guarantee.specs.Account.{recordBy, queueBy}
-use Rattle.guarantee.proofs.Queues.{at-set, queue-is}
-use Rattle.guarantee.proofs.Acts.{act-cases}
-use Rattle.guarantee.proofs.Applied.{apply-cases, named}
-use Rattle.guarantee.proofs.Answered.{Good}
+use Rattle.invariants.proofs.Queues.{at-set, queue-is}
+use Rattle.invariants.proofs.Acts.{act-cases}
+use Rattle.invariants.proofs.Applied.{apply-cases, named}
+use Rattle.invariants.proofs.Answered.{Good}
 
 -- the record r of thread t after the event b
 abbrev pub recordAfter : List ℕ → ℕ → Thread → Thread

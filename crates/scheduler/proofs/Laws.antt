@@ -18,7 +18,7 @@ use Rattle.model.specs.Answers.{decidedOf}
 use Rattle.model.specs.declared.State.{State}
 use Rattle.model.specs.declared.Decision.{Decision}
 use Rattle.model.specs.declared.Verdict.the-variants as verdict
-use Rattle.guarantee.proofs.Applied.{Left, apply-left}
+use Rattle.invariants.proofs.Applied.{Left, apply-left}
 use Rattle.selection.specs.Needs.{Bounded}
 use Rattle.election.proofs.Bounds.{settled-bounded}
 use Rattle.scheduler.specs.Answers.{Answered}

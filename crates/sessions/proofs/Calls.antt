@@ -28,12 +28,12 @@ use Rattle.guarantee.specs.Demand3.{accepted, Served}
 use Rattle.guarantee.specs.Ledger.{ledgerOf, acceptedOf}
 use Rattle.guarantee.specs.Account.{Accounted, decisionsFrom}
 use Rattle.model.proofs.Accepted.{of-fit}
-use Rattle.guarantee.proofs.Answered as Answers
+use Rattle.invariants.proofs.Answered as Answers
 use Rattle.guarantee.proofs.Log.{Log, run-log, accepted-is, when-refused}
 use Rattle.guarantee.proofs.Demand3.{demand3}
 use Rattle.guarantee.proofs.Account.{account, answers}
 use Rattle.guarantee.proofs.Totals.{totals}
-use Rattle.guarantee.proofs.Fresh.{start-good}
+use Rattle.invariants.proofs.Fresh.{start-good}
 use Rattle.scheduler.specs.Answers.{Answered}
 use Rattle.sessions.specs.Calls.{Call, Calls, leftBy, bytesOf, chosenBy, entryOf, entriesOf, decides, acceptedCalls, Session}
 use Rattle.sessions.specs.Calls.{AcceptedIsDecided, CallsAreRun, DoorDemand3, DoorAccount, DoorAnswers, DoorTotals, StartDemand3}

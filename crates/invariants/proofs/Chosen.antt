@@ -11,7 +11,7 @@ use Rattle.lists.proofs.All.{member-keep, member-append, any-member, keep-both,
 use Rattle.model.specs.State.{thread, queueOf, idle}
 use Rattle.model.specs.Policy.{candidates, competing, topPriority, chosen}
 use Rattle.model.specs.declared.State.{State}
-use Rattle.guarantee.specs.Promises.{Allowed, FirstOf, mayRun, Choice}
+use Rattle.invariants.specs.Promises.{Allowed, FirstOf, mayRun, Choice}
 
 -- ---- the first element for which a test holds
 

@@ -19,8 +19,8 @@ use Rattle.model.specs.State.{used}
 use Rattle.model.specs.Step.{addUsed, addHistory, clearHistory, lowerUsed}
 use Rattle.model.specs.Facts.{Books, Rest, usedAt, charges}
 use Rattle.model.specs.declared.State.{State}
-use Rattle.guarantee.specs.Scheduler.{share, charge}
-use Rattle.guarantee.proofs.Charges.{row-charge, row-clear, used-charge, lower-past, lower-at}
+use Rattle.invariants.specs.Charges.{share, charge}
+use Rattle.invariants.proofs.Charges.{row-charge, row-clear, used-charge, lower-past, lower-at}
 
 -- what is charged to one partition is charged to all together, and nothing is charged to one past the last
 share-total : (n : ℕ) (o : Option ℕ) (x : ℕ) → ((r : ℕ) → o ≡ some r → r < n) → total n (λ q. share o q x) ≤ x

@@ -15,9 +15,9 @@ use Rattle.model.specs.Step.{Saved, billed, charge, next, moveSlot, restart}
 use Rattle.model.specs.declared.State.{State}
 use Rattle.model.specs.Facts.{Settled, Sound}
 use Rattle.model.proofs.Bounds.{running-inside, clear-length, next-inside}
-use Rattle.guarantee.proofs.Charges.{history-length}
-use Rattle.guarantee.proofs.Zeros.{zero-books, zero-rest}
-use Rattle.guarantee.proofs.Books.{books-charge, books-tick, rest-charge, rest-tick}
+use Rattle.invariants.proofs.Charges.{history-length}
+use Rattle.invariants.proofs.Zeros.{zero-books, zero-rest}
+use Rattle.invariants.proofs.Books.{books-charge, books-tick, rest-charge, rest-tick}
 
 -- the partition that is charged is one of the sheet's
 pub billed-inside : (s : State) (h : List ℕ) → Sound s h → (r : ℕ) → billed s ≡ some r → r < s .settings .count

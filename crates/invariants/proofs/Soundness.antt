@@ -9,10 +9,10 @@ use Rattle.model.specs.Run.{after}
 use Rattle.model.specs.Facts.{Settled, Fit, Accepted}
 use Rattle.model.proofs.Accepted.{fit-of, of-fit}
 use Rattle.model.proofs.Bounds.{used-most}
-use Rattle.guarantee.specs.Promises.{Taken, Starts, Keeps, RunKeeps, Untouched, TotalsFit}
-use Rattle.guarantee.proofs.Applied.{after-left, after-sound, after-room, after-typed}
-use Rattle.guarantee.proofs.Answered.{accepts, accepted, answer-accepted, answer-refused}
-use Rattle.guarantee.proofs.Fresh.{start-good, start-typed}
+use Rattle.invariants.specs.Promises.{Taken, Starts, Keeps, RunKeeps, Untouched, TotalsFit}
+use Rattle.invariants.proofs.Applied.{after-left, after-sound, after-room, after-typed}
+use Rattle.invariants.proofs.Answered.{accepts, accepted, answer-accepted, answer-refused}
+use Rattle.invariants.proofs.Fresh.{start-good, start-typed}
 
 pub starts : Starts
 starts sheet h w e = record { typed = start-typed sheet h w e; taken = of-fit _ _ (start-good sheet h e .fit) }

@@ -17,8 +17,8 @@ use Rattle.model.specs.declared.State.{State}
 use Rattle.model.specs.Facts.{Settled, Runs}
 use Rattle.model.proofs.Bounds.{queued-inside}
 use Rattle.model.proofs.Winner.{winner-won, winner-none}
-use Rattle.guarantee.specs.Promises.{Allowed, NoneAllowed, IdleExactly, idleDecision, Busy}
-use Rattle.guarantee.proofs.Chosen.{competes, chosen-is, chosen-allowed}
+use Rattle.invariants.specs.Promises.{Allowed, NoneAllowed, IdleExactly, idleDecision, Busy}
+use Rattle.invariants.proofs.Chosen.{competes, chosen-is, chosen-allowed}
 
 module _ (s : State) (h : List ℕ) (k : Settled s h) where
   -- an allowed thread's partition competes

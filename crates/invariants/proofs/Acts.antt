@@ -16,7 +16,7 @@ use Rattle.model.specs.Step.{withQueue, withThread, withReady, withPriority, cr
 use Rattle.model.specs.declared.Thread.{Thread}
 use Rattle.model.specs.declared.State.{State}
 use Rattle.model.specs.Facts.{Settled, Proper, ReadyQueue, Named}
-use Rattle.guarantee.proofs.Queues.{queue-is, stored, proper-set, queue-same, queue-joins, queue-leaves}
+use Rattle.invariants.proofs.Queues.{queue-is, stored, proper-set, queue-same, queue-joins, queue-leaves}
 
 -- one thread's record changed, with the queue as it was or another one
 module _ (s : State) (h : List ℕ) (k : Settled s h) (sixty-four : length (s .threads) ≡ 64) (t : ℕ) (inside : t < 64) where

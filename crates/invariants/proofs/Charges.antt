@@ -19,7 +19,7 @@ use Rattle.model.specs.State.{used}
 use Rattle.model.specs.Step.{addUsed, addHistory, clearHistory, lowerUsed}
 use Rattle.model.specs.Facts.{usedAt}
 use Rattle.model.specs.declared.State.{State}
-use Rattle.guarantee.specs.Scheduler.{share, charge}
+use Rattle.invariants.specs.Charges.{share, charge}
 
 -- ---- the history after e is charged to the partition o in the current slot
 

@@ -18,10 +18,10 @@ use Rattle.model.specs.declared.State.{State}
 use Rattle.model.proofs.Meaning.{sound-of}
 use Rattle.model.proofs.Order.{weak}
 use Rattle.model.proofs.Winner.{winner-none}
-use Rattle.guarantee.specs.Promises.{Idles, Orders, FirstOf, mayRun, Choice, Chooses, ChoosesOne, BudgetFirst}
-use Rattle.guarantee.proofs.Winner.{winner-has}
-use Rattle.guarantee.proofs.Chosen.{first-member}
-use Rattle.guarantee.proofs.Decision.{allowed-competes, decide-picks, idle-exactly}
+use Rattle.invariants.specs.Promises.{Idles, Orders, FirstOf, mayRun, Choice, Chooses, ChoosesOne, BudgetFirst}
+use Rattle.invariants.proofs.Winner.{winner-has}
+use Rattle.invariants.proofs.Chosen.{first-member}
+use Rattle.invariants.proofs.Decision.{allowed-competes, decide-picks, idle-exactly}
 
 pub orders : Orders
 orders s m = weak s m

@@ -19,13 +19,13 @@ use Rattle.model.specs.declared.Thread.{Thread}
 use Rattle.model.specs.declared.State.{State}
 use Rattle.model.specs.Facts.{Settled, Sound, Accepted, Named}
 use Rattle.model.proofs.Bounds.{next-inside}
-use Rattle.guarantee.proofs.Charges.{used-length, lower-length, history-past, clear-past}
-use Rattle.guarantee.proofs.Queues.{at-set}
-use Rattle.guarantee.proofs.Acts.{act-cases, act-settings, act-stamp, act-settled}
-use Rattle.guarantee.proofs.Kept.{billed-inside, length-charge, length-move, charge-settled, move-settled, restart-settled}
-use Rattle.guarantee.proofs.Words.{words}
-use Rattle.guarantee.proofs.Typing.{typed-of}
-use Rattle.guarantee.proofs.Decision.{decide-runs}
+use Rattle.invariants.proofs.Charges.{used-length, lower-length, history-past, clear-past}
+use Rattle.invariants.proofs.Queues.{at-set}
+use Rattle.invariants.proofs.Acts.{act-cases, act-settings, act-stamp, act-settled}
+use Rattle.invariants.proofs.Kept.{billed-inside, length-charge, length-move, charge-settled, move-settled, restart-settled}
+use Rattle.invariants.proofs.Words.{words}
+use Rattle.invariants.proofs.Typing.{typed-of}
+use Rattle.invariants.proofs.Decision.{decide-runs}
 
 -- ---- the threads' action
 
