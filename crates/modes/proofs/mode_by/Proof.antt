@@ -1,6 +1,6 @@
-use Rattle.ranking.specs.Modes.{modeBy}
-use Rattle.ranking.proofs.modes.mode_by.Statement.{statement}
-use Rattle.ranking.proofs.modes.mode_by.Tie as tie
+use Rattle.modes.specs.Modes.{modeBy}
+use Rattle.modes.proofs.mode_by.Statement.{statement}
+use Rattle.modes.proofs.mode_by.Tie as tie
 
 returns : tie.Need-returns
 unfolding modeBy

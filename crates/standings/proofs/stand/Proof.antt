@@ -5,8 +5,8 @@ use mir.Val.{SFits}
 use mir.Facts.{toZ-ofZ}
 use Rattle.units.proofs.Laws.{remaining-fits}
 use borrow.Author.Needs.{needs}
-use Rattle.ranking.proofs.standings.stand.Statement.{statement}
-use Rattle.ranking.proofs.standings.stand.Tie as tie
+use Rattle.standings.proofs.stand.Statement.{statement}
+use Rattle.standings.proofs.stand.Tie as tie
 
 budget-requires : tie.Need-budget-requires
 budget-requires c κs = search needs

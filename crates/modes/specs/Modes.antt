@@ -3,8 +3,8 @@ use mathlib.Core.Bool.{false, not, cond, _&&_, _||_}
 use lib.Dec.{eqb}
 use Rattle.model.specs.declared.Mode.{Mode}
 use Rattle.model.specs.declared.Mode.the-variants.{Idle, FreeTime, Underload, AtLimit}
-use Rattle.ranking.specs.declared.modes.Tally.{Tally}
-use Rattle.ranking.specs.declared.standings.Standing.{Standing}
+use Rattle.standings.specs.declared.Standing.{Standing}
+use Rattle.modes.specs.declared.Tally.{Tally}
 
 -- the tally of no partition
 abbrev pub uncounted : Tally

@@ -1,6 +1,6 @@
 use borrow.Author.Needs.{needs}
-use Rattle.ranking.proofs.orders.order_in.Statement.{statement}
-use Rattle.ranking.proofs.orders.order_in.Tie as tie
+use Rattle.ranking.proofs.order_in.Statement.{statement}
+use Rattle.ranking.proofs.order_in.Tie as tie
 
 enum-told : tie.Need-enum-told
 enum-told c = search needs

@@ -1,7 +1,8 @@
-// What is known of a partition: what it claims, and how it stands.
+// What is known of a partition, in numbers alone: what it claims, and how it stands. Nothing here knows of a state, of threads or of how
+// many partitions there are.
 ghost use mathlib.Core.Path.{_≡_};
 ghost use Prim.Native.Nat.{_≤_, _%_};
-ghost use Rattle.ranking.specs.Standings.{nothing, standingOf};
+ghost use Rattle.standings.specs.Standings.{nothing, standingOf};
 use units::Cycles;
 use units::Fraction;
 use units::Percent;

@@ -1,8 +1,8 @@
-// The mode, from what is counted of the standings.
+// The mode, from what is counted of the standings. Nothing here knows of a state, of threads or of how many partitions there are.
 ghost use mathlib.Core.Path.{_≡_};
-ghost use Rattle.ranking.specs.Modes.{uncounted, counted, modeBy};
-use super::standings::Standing;
+ghost use Rattle.modes.specs.Modes.{uncounted, counted, modeBy};
 use model::Mode;
+use standings::Standing;
 
 // What the mode depends on. Each flag is a question of the mode table, asked of the partitions seen so far.
 pub struct Tally {

@@ -1,7 +1,7 @@
 use mathlib.Core.Path.{refl}
-use Rattle.ranking.specs.Modes.{counted}
-use Rattle.ranking.proofs.modes.count_in.Statement.{statement}
-use Rattle.ranking.proofs.modes.count_in.Tie as tie
+use Rattle.modes.specs.Modes.{counted}
+use Rattle.modes.proofs.count_in.Statement.{statement}
+use Rattle.modes.proofs.count_in.Tie as tie
 
 returns : tie.Need-returns
 unfolding counted

@@ -1,7 +1,7 @@
 use Rattle.ranking.specs.Orders.{comesBefore}
 use borrow.Author.Needs.{needs}
-use Rattle.ranking.proofs.orders.comes_before.Statement.{statement}
-use Rattle.ranking.proofs.orders.comes_before.Tie as tie
+use Rattle.ranking.proofs.comes_before.Statement.{statement}
+use Rattle.ranking.proofs.comes_before.Tie as tie
 
 smaller-fraction-requires : tie.Need-smaller-fraction-requires
 smaller-fraction-requires c κs = search needs

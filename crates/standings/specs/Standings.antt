@@ -4,8 +4,8 @@ use Rattle.units.specs.Units.{budgetOf, remainingOf, hasBudgetOf}
 use Rattle.units.specs.declared.Cycles.{Cycles}
 use Rattle.units.specs.declared.Ticks.{Ticks}
 use Rattle.units.specs.declared.Percent.{Percent}
-use Rattle.ranking.specs.declared.standings.Claim.{Claim}
-use Rattle.ranking.specs.declared.standings.Standing.{Standing}
+use Rattle.standings.specs.declared.Claim.{Claim}
+use Rattle.standings.specs.declared.Standing.{Standing}
 
 -- what stands where there is no partition
 abbrev pub nothing : Standing

@@ -1,7 +1,7 @@
 use Rattle.ranking.specs.Orders.{levelWith}
 use borrow.Author.Needs.{needs}
-use Rattle.ranking.proofs.orders.level.Statement.{statement}
-use Rattle.ranking.proofs.orders.level.Tie as tie
+use Rattle.ranking.proofs.level.Statement.{statement}
+use Rattle.ranking.proofs.level.Tie as tie
 
 comes-before-requires : tie.Need-comes-before-requires
 comes-before-requires c κs = search needs

@@ -2,8 +2,8 @@ use mathlib.Core.Bool.{Bool, cond}
 use mathlib.Core.Path.{sym, ap, _∙_}
 use Rattle.ranking.proofs.Leads.{led-by}
 use borrow.Author.Needs.{needs}
-use Rattle.ranking.proofs.orders.led.Statement.{statement}
-use Rattle.ranking.proofs.orders.led.Tie as tie
+use Rattle.ranking.proofs.led.Statement.{statement}
+use Rattle.ranking.proofs.led.Tie as tie
 
 comes-before-requires : tie.Need-comes-before-requires
 comes-before-requires c κs = search needs
