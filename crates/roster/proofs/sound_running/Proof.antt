@@ -1,9 +1,9 @@
 -- `sound_running` is the model's clause of the running thread.
 use Rattle.model.specs.State.{allows}
-use Rattle.roster.proofs.Clauses.{runs-idle, runs-outside, runs-ready}
+use Rattle.roster.proofs.Running.{runs-idle, runs-outside, runs-ready}
 use borrow.Author.Needs.{needs}
-use Rattle.roster.proofs.threads.sound_running.Statement.{statement}
-use Rattle.roster.proofs.threads.sound_running.Tie as tie
+use Rattle.roster.proofs.sound_running.Statement.{statement}
+use Rattle.roster.proofs.sound_running.Tie as tie
 
 returns : tie.Need-returns
 returns c = runs-idle (c .before .args .t1) (c .if1 .taken)

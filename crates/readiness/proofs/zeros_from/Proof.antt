@@ -8,8 +8,8 @@ use lib.Dec.{eqb}
 use lib.ListN.{length, drop}
 use Rattle.lists.specs.Lists.{all}
 use Rattle.lists.proofs.Loops.{all-drop, all-past}
-use Rattle.roster.proofs.queue.zeros_from.Statement.{statement}
-use Rattle.roster.proofs.queue.zeros_from.Tie as tie
+use Rattle.readiness.proofs.zeros_from.Statement.{statement}
+use Rattle.readiness.proofs.zeros_from.Tie as tie
 
 abbrev Inv-loop : tie.InvT-loop
 Inv-loop n entries ok₀ i₀ ok i = (i ≤ 64) × ((ok && all (eqb 0) (drop i entries)) ≡ all (eqb 0) (drop n entries))

@@ -10,7 +10,7 @@ use native.Mathlib.Decide.{ℕ-discrete}
 use borrow.Author.Tests.{eq-eqb, ne-eqb}
 use Rattle.lists.specs.Lists.{any, member}
 use Rattle.lists.proofs.Loops.{any-take}
-use Rattle.roster.specs.Marked.{Holds}
+use Rattle.readiness.specs.Marked.{Holds}
 
 pub unmarked : Holds (replicate 256 false) []
 unfolding any

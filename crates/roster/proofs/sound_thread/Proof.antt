@@ -1,7 +1,7 @@
 -- `sound_thread` is the model's clause of a record.
 use Rattle.model.specs.Sound.{soundThread}
-use Rattle.roster.proofs.threads.sound_thread.Statement.{statement}
-use Rattle.roster.proofs.threads.sound_thread.Tie as tie
+use Rattle.roster.proofs.sound_thread.Statement.{statement}
+use Rattle.roster.proofs.sound_thread.Tie as tie
 
 returns : tie.Need-returns
 unfolding soundThread

@@ -1,10 +1,10 @@
 -- `sound_queue` is the model's clause of the ready queue.
 use borrow.Author.Tests.{not-true, not-false, leb-true}
 use lib.Dec.{leb}
-use Rattle.roster.proofs.Clauses.{queue-long, queue-parts}
+use Rattle.readiness.proofs.Parts.{queue-long, queue-parts}
 use borrow.Author.Needs.{needs}
-use Rattle.roster.proofs.queue.sound_queue.Statement.{statement}
-use Rattle.roster.proofs.queue.sound_queue.Tie as tie
+use Rattle.readiness.proofs.sound_queue.Statement.{statement}
+use Rattle.readiness.proofs.sound_queue.Tie as tie
 
 returns : tie.Need-returns
 returns c = queue-long (c .before .args .s) (not-true (leb (c .before .args .s .queued) 64) (c .if1 .taken))

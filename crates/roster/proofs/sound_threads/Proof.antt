@@ -9,8 +9,8 @@ use Rattle.lists.proofs.Loops.{all-next}
 use Rattle.model.specs.State.{thread}
 use Rattle.model.specs.Sound.{soundThread}
 use Rattle.model.specs.declared.State.{State}
-use Rattle.roster.proofs.threads.sound_threads.Statement.{statement}
-use Rattle.roster.proofs.threads.sound_threads.Tie as tie
+use Rattle.roster.proofs.sound_threads.Statement.{statement}
+use Rattle.roster.proofs.sound_threads.Tie as tie
 
 abbrev Inv-loop : tie.InvT-loop
 Inv-loop s count ok₀ t₀ ok t = (t ≤ 64) × (ok ≡ all (λ u. soundThread count (thread s u)) (below t))

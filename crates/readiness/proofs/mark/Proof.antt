@@ -8,10 +8,10 @@ use lib.Dec.{ltb}
 use lib.ListN.{length, take, getD, length-set}
 use Rattle.lists.specs.Lists.{all, any, distinct}
 use Rattle.lists.proofs.Loops.{all-take, distinct-take}
-use Rattle.roster.specs.Marked.{Holds}
-use Rattle.roster.proofs.Marking.{marks-more, unmarked}
-use Rattle.roster.proofs.queue.mark.Statement.{statement}
-use Rattle.roster.proofs.queue.mark.Tie as tie
+use Rattle.readiness.specs.Marked.{Holds}
+use Rattle.readiness.proofs.Marking.{marks-more, unmarked}
+use Rattle.readiness.proofs.mark.Statement.{statement}
+use Rattle.readiness.proofs.mark.Tie as tie
 
 abbrev Inv-loop : tie.InvT-loop
 Inv-loop n entries count seen₀ once₀ inside₀ i₀ seen once inside i =

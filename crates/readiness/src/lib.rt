@@ -1,4 +1,4 @@
-// Soundness of the ready queue.
+// Whether a state's ready queue is sound: no thread stands in it twice, it holds exactly the ready threads, and its unused places are zero.
 use model::State;
 ghost use mathlib.Core.Path.{_≡_};
 ghost use mathlib.Core.Bool.{not, _&&_, _||_};
@@ -8,7 +8,7 @@ ghost use lib.ListN.{take, drop};
 ghost use Rattle.lists.specs.Lists.{all, below, member};
 ghost use Rattle.model.specs.State.{thread, queueOf};
 ghost use Rattle.model.specs.Sound.{sameBool, soundQueue};
-ghost use Rattle.roster.specs.Marked.{MarksOf, Holds};
+ghost use Rattle.readiness.specs.Marked.{MarksOf, Holds};
 
 // What one pass over the queue's entries finds: that each stands there once, that each is a thread's number, and which bytes were seen.
 struct Marks {

@@ -6,7 +6,7 @@ use mathlib.Core.List.{List}
 use lib.ListN.{getD}
 use lib.Dec.{ltb}
 use Rattle.lists.specs.Lists.{all, member, distinct}
-use Rattle.roster.specs.declared.queue.Marks.{Marks}
+use Rattle.readiness.specs.declared.Marks.{Marks}
 
 -- the threads seen are those of the list
 abbrev pub Holds : List Bool → List ℕ → Type 0

@@ -9,8 +9,8 @@ use Rattle.lists.proofs.Loops.{all-next}
 use Rattle.model.specs.State.{thread, queueOf}
 use Rattle.model.specs.Sound.{sameBool}
 use Rattle.model.specs.declared.State.{State}
-use Rattle.roster.proofs.queue.sound_readiness.Statement.{statement}
-use Rattle.roster.proofs.queue.sound_readiness.Tie as tie
+use Rattle.readiness.proofs.sound_readiness.Statement.{statement}
+use Rattle.readiness.proofs.sound_readiness.Tie as tie
 
 abbrev agrees : State → ℕ → Bool
 agrees s t = sameBool (thread s t .ready) (member t (queueOf s))
