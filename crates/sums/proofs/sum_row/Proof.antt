@@ -7,8 +7,8 @@ use lib.Seq.{take-length}
 use denote.Ref.{now}
 use Rattle.lists.specs.Lists.{sum}
 use Rattle.lists.proofs.Loops.{sum-more}
-use Rattle.history.proofs.sum_row.Statement.{statement}
-use Rattle.history.proofs.sum_row.Tie as tie
+use Rattle.sums.proofs.sum_row.Statement.{statement}
+use Rattle.sums.proofs.sum_row.Tie as tie
 
 abbrev Inv-loop : tie.InvT-loop
 Inv-loop row added₀ i₀ added i = (i ≤ length row) × (added ≡ sum (take i row)) × (added ≤ 4294967295 * i)

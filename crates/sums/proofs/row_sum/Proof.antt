@@ -4,8 +4,8 @@ use denote.Ref.{now}
 use Rattle.lists.specs.Lists.{sum}
 use Rattle.lists.proofs.Parts.{part-row}
 use borrow.Author.Needs.{needs}
-use Rattle.history.proofs.row_sum.Statement.{statement}
-use Rattle.history.proofs.row_sum.Tie as tie
+use Rattle.sums.proofs.row_sum.Statement.{statement}
+use Rattle.sums.proofs.row_sum.Tie as tie
 
 mul-from : tie.Need-mul-from
 mul-from c = search needs

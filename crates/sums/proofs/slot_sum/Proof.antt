@@ -7,8 +7,8 @@ use denote.Ref.{now}
 use Rattle.lists.specs.Lists.{total}
 use Rattle.lists.proofs.Parts.{row-end}
 use Rattle.lists.proofs.Loops.{total-more}
-use Rattle.history.proofs.slot_sum.Statement.{statement}
-use Rattle.history.proofs.slot_sum.Tie as tie
+use Rattle.sums.proofs.slot_sum.Statement.{statement}
+use Rattle.sums.proofs.slot_sum.Tie as tie
 
 abbrev Inv-loop : tie.InvT-loop
 Inv-loop history window count slot added₀ p₀ added p =
