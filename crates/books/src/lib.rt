@@ -34,7 +34,7 @@ fn totals_agree(s: State, history: &[u32]) -> bool
     let mut ok = true;
     let mut p: usize = 0;
     while p < count {
-        let sum = history::row_sum(history, window, p);
+        let sum = sums::row_sum(history, window, p);
         ok = ok & ((s.used[p].0 as u64) == sum);
         p += 1;
     }
@@ -49,7 +49,7 @@ fn slots_within(history: &[u32], window: usize, count: usize, most: u64) -> bool
     let mut ok = true;
     let mut k: usize = 0;
     while k < window {
-        let sum = history::slot_sum(history, window, count, k);
+        let sum = sums::slot_sum(history, window, count, k);
         ok = ok & (sum <= most);
         k += 1;
     }
@@ -74,5 +74,5 @@ pub fn sound_history(s: State, history: &[u32]) -> bool
         & (since <= most)
         & totals_agree(s, history)
         & slots_within(history, window, count, most)
-        & (history::slot_sum(history, window, count, slot) <= since)
+        & (sums::slot_sum(history, window, count, slot) <= since)
 }

@@ -14,8 +14,8 @@ use Rattle.model.specs.declared.Mode.{Mode}
 use Rattle.model.specs.declared.State.{State}
 use Rattle.model.proofs.Winner.{winner-none}
 use Rattle.ranking.specs.Orders.{orderBy, comesBefore}
-use Rattle.ranking.specs.declared.orders.Order.{Order}
-use Rattle.ranking.specs.declared.standings.Standing.{Standing}
+use Rattle.ranking.specs.declared.Order.{Order}
+use Rattle.standings.specs.declared.Standing.{Standing}
 use Rattle.selection.specs.Needs.{Bounded}
 use Rattle.selection.specs.Standings.{standing, Standings}
 use Rattle.selection.specs.Search.{Ranked, picked}

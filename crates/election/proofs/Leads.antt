@@ -13,10 +13,10 @@ use Rattle.model.specs.Answers.{modeOf}
 use Rattle.model.specs.declared.State.{State}
 use Rattle.model.specs.declared.Mode.{Mode}
 use Rattle.model.specs.declared.Mode.the-variants.{Idle, FreeTime, Underload, AtLimit}
-use Rattle.ranking.specs.Standings.{nothing}
+use Rattle.standings.specs.Standings.{nothing}
 use Rattle.ranking.specs.Orders.{orderBy, firstBy, comesBefore, ledBy}
-use Rattle.ranking.specs.declared.orders.Order.{Order}
-use Rattle.ranking.specs.declared.standings.Standing.{Standing}
+use Rattle.ranking.specs.declared.Order.{Order}
+use Rattle.standings.specs.declared.Standing.{Standing}
 use Rattle.ranking.proofs.Leads.{led-skip, led-new, led-both}
 use Rattle.selection.specs.Standings.{standing}
 use Rattle.selection.specs.Search.{standingOfWinner}

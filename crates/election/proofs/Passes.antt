@@ -10,9 +10,9 @@ use lib.Seq.{getD-set-same, getD-set-other}
 use Rattle.sheet.specs.Settings.{budget}
 use Rattle.model.specs.Policy.{remaining, hasBudget}
 use Rattle.model.specs.declared.State.{State}
-use Rattle.ranking.specs.Standings.{nothing, standingOf}
-use Rattle.ranking.specs.declared.standings.Claim.{Claim}
-use Rattle.ranking.specs.declared.standings.Standing.{Standing}
+use Rattle.standings.specs.Standings.{nothing, standingOf}
+use Rattle.standings.specs.declared.Claim.{Claim}
+use Rattle.standings.specs.declared.Standing.{Standing}
 use Rattle.selection.specs.Claims.{noClaim, claim, Claims}
 use Rattle.selection.specs.Standings.{standing}
 

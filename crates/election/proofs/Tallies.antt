@@ -10,9 +10,9 @@ use Rattle.model.specs.Policy.{competing, hasBudget, partitions, mode, idleMode
 use Rattle.model.specs.Answers.{modeOf}
 use Rattle.model.specs.declared.Mode.the-variants.{Idle, FreeTime, Underload, AtLimit}
 use Rattle.model.specs.declared.State.{State}
-use Rattle.ranking.specs.Modes.{uncounted, counted, modeBy}
-use Rattle.ranking.specs.declared.modes.Tally.{Tally}
-use Rattle.ranking.specs.declared.standings.Standing.{Standing}
+use Rattle.modes.specs.Modes.{uncounted, counted, modeBy}
+use Rattle.modes.specs.declared.Tally.{Tally}
+use Rattle.standings.specs.declared.Standing.{Standing}
 use Rattle.selection.specs.Standings.{standing}
 
 module _ (s : State) where

@@ -20,26 +20,26 @@ pub fn decide(s: State) -> Decision
     let window = settings.window;
     let tick = settings.tick;
     let count = settings.count as usize;
-    let nothing = ranking::standings::nothing();
+    let nothing = standings::nothing();
     let mut all = [nothing; 16];
-    let mut tally = ranking::modes::uncounted();
+    let mut tally = modes::uncounted();
     let mut p: usize = 0;
     while p < count {
         let claim = claims[p];
         let total = used[p];
         let share = settings.shares[p];
-        let x = ranking::standings::stand(claim, total, share, window, tick);
+        let x = standings::stand(claim, total, share, window, tick);
         all[p] = x;
-        tally = ranking::modes::count_in(tally, x);
+        tally = modes::count_in(tally, x);
         p += 1;
     }
-    let mode = ranking::modes::mode_by(tally);
-    let order = ranking::orders::order_in(mode, settings.policy);
+    let mode = modes::mode_by(tally);
+    let order = ranking::order_in(mode, settings.policy);
     let mut best = nothing;
     let mut q: usize = 0;
     while q < count {
         let x = all[q];
-        best = ranking::orders::led(order, best, x);
+        best = ranking::led(order, best, x);
         q += 1;
     }
     let pick = selection::search::search(s, all, order, best);

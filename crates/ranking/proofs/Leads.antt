@@ -1,9 +1,9 @@
 -- Laws of the better of two standings.
 use mathlib.Core.Path.{_≡_, _∙_}
 use mathlib.Core.Bool.{Bool, true, false, not, cond, _&&_, _||_}
+use Rattle.standings.specs.declared.Standing.{Standing}
 use Rattle.ranking.specs.Orders.{comesBefore, ledBy}
-use Rattle.ranking.specs.declared.orders.Order.{Order}
-use Rattle.ranking.specs.declared.standings.Standing.{Standing}
+use Rattle.ranking.specs.declared.Order.{Order}
 
 module _ (o : Order) (best x : Standing) where
   -- by the answer z to whether x comes before the best

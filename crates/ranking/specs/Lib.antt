@@ -1,3 +1,1 @@
-pub mod Standings
-pub mod Modes
 pub mod Orders

@@ -5,8 +5,8 @@ use lib.Dec.{ltb, eqb}
 use Rattle.units.specs.Units.{smallerFraction}
 use Rattle.model.specs.declared.Mode.{Mode}
 use Rattle.model.specs.declared.Mode.the-variants.{Idle, FreeTime, Underload, AtLimit}
-use Rattle.ranking.specs.declared.orders.Order.{Order}
-use Rattle.ranking.specs.declared.standings.Standing.{Standing}
+use Rattle.standings.specs.declared.Standing.{Standing}
+use Rattle.ranking.specs.declared.Order.{Order}
 
 -- the mode table's column "order of partitions"
 abbrev pub orderBy : Mode → ℕ → Order

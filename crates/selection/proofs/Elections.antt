@@ -17,8 +17,8 @@ use Rattle.model.specs.Choices.{Won}
 use Rattle.model.specs.declared.State.{State}
 use Rattle.model.proofs.Winner.{irreflexive, winner-won, winner-none}
 use Rattle.ranking.specs.Orders.{comesBefore, levelWith}
-use Rattle.ranking.specs.declared.orders.Order.{Order}
-use Rattle.ranking.specs.declared.standings.Standing.{Standing}
+use Rattle.ranking.specs.declared.Order.{Order}
+use Rattle.standings.specs.declared.Standing.{Standing}
 use Rattle.selection.specs.Claims.{mayRun}
 use Rattle.selection.specs.Standings.{standing}
 use Rattle.selection.specs.Search.{soughtBy, standingOfWinner, Ranked, picked}

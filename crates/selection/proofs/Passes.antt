@@ -16,7 +16,7 @@ use Rattle.model.specs.State.{thread, queueOf, allows}
 use Rattle.model.specs.Policy.{candidates, competing, topPriority}
 use Rattle.model.specs.declared.State.{State}
 use Rattle.model.specs.declared.Thread.{Thread}
-use Rattle.ranking.specs.declared.standings.Claim.{Claim}
+use Rattle.standings.specs.declared.Claim.{Claim}
 use Rattle.selection.specs.Claims.{noClaim, mayRun, raisedBy, claimFrom, claim}
 
 -- ---- one more thread

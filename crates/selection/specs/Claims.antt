@@ -10,7 +10,7 @@ use Rattle.model.specs.State.{allows, thread}
 use Rattle.model.specs.Policy.{competing, topPriority}
 use Rattle.model.specs.declared.Thread.{Thread}
 use Rattle.model.specs.declared.State.{State}
-use Rattle.ranking.specs.declared.standings.Claim.{Claim}
+use Rattle.standings.specs.declared.Claim.{Claim}
 
 abbrev pub noClaim : Claim
 noClaim = record { competing = false; top = 0 }

@@ -9,10 +9,10 @@ use Rattle.model.specs.State.{allows, idle}
 use Rattle.model.specs.Policy.{mode, before, winner, chosen}
 use Rattle.model.specs.declared.Thread.{Thread}
 use Rattle.model.specs.declared.State.{State}
-use Rattle.ranking.specs.Standings.{nothing}
+use Rattle.standings.specs.Standings.{nothing}
 use Rattle.ranking.specs.Orders.{comesBefore}
-use Rattle.ranking.specs.declared.orders.Order.{Order}
-use Rattle.ranking.specs.declared.standings.Standing.{Standing}
+use Rattle.ranking.specs.declared.Order.{Order}
+use Rattle.standings.specs.declared.Standing.{Standing}
 use Rattle.selection.specs.Needs.{Bounded}
 use Rattle.selection.specs.Standings.{standing, Standings}
 use Rattle.selection.specs.declared.search.Pick.{Pick}

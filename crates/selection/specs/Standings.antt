@@ -7,8 +7,8 @@ use Rattle.sheet.specs.Settings.{budget}
 use Rattle.model.specs.State.{used}
 use Rattle.model.specs.Policy.{competing, topPriority, hasBudget}
 use Rattle.model.specs.declared.State.{State}
-use Rattle.ranking.specs.Standings.{nothing}
-use Rattle.ranking.specs.declared.standings.Standing.{Standing}
+use Rattle.standings.specs.Standings.{nothing}
+use Rattle.standings.specs.declared.Standing.{Standing}
 
 -- the standing of partition p
 unfoldable pub standing : State → ℕ → Standing

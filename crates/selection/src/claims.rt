@@ -6,7 +6,7 @@ ghost use Rattle.selection.specs.Needs.{Bounded};
 ghost use Rattle.selection.specs.Claims.{raisedBy, Claims};
 use model::State;
 use model::Thread;
-use ranking::standings::Claim;
+use standings::Claim;
 
 // The run mask has this core's bit.
 pub fn allowed(mask: u8, core: u8) -> bool

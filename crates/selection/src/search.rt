@@ -5,8 +5,8 @@ ghost use Rattle.model.specs.Policy.{winner};
 ghost use Rattle.selection.specs.Search.{soughtBy, Ranked, picked};
 use model::State;
 use model::Thread;
-use ranking::orders::Order;
-use ranking::standings::Standing;
+use ranking::Order;
+use standings::Standing;
 
 // The partition that wins and the thread of it that runs; partition 0 and thread 255 where none competes.
 pub struct Pick {
@@ -42,7 +42,7 @@ pub fn search(s: State, all: [Standing; 16], order: Order, best: Standing) -> Pi
             };
         }
         let x = all[p as usize];
-        if !ranking::orders::level(order, best, x) {
+        if !ranking::level(order, best, x) {
             p += 1;
             continue;
         }

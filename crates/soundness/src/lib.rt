@@ -29,7 +29,7 @@ pub fn sound(s: State, history: &[u32]) -> bool
     ensures { λ r. ⌜ r ≡ Model.sound s (now (history .entry)) ⌝ }
 {
     let fine = books::sound_rest(s) & books::sound_history(s, history) & roster::sound_threads(s);
-    let ready = roster::sound_queue(s);
+    let ready = readiness::sound_queue(s);
     if !ready {
         return false;
     }

@@ -8,7 +8,7 @@ use lib.ListN.{length, length-set}
 use Rattle.sheet.proofs.Within.{share-most}
 use Rattle.model.specs.Answers.{modeOf}
 use Rattle.model.specs.Policy.{mode}
-use Rattle.ranking.specs.Modes.{modeBy}
+use Rattle.modes.specs.Modes.{modeBy}
 use Rattle.selection.specs.Standings.{Standings}
 use Rattle.election.proofs.Passes.{StandingsBelow, standings-more, standing-made}
 use Rattle.election.proofs.Tallies.{tallyBelow, tally-none, tally-more, mode-found}

@@ -13,7 +13,7 @@ use Rattle.model.specs.State.{idle}
 use Rattle.model.specs.Policy.{winner, chosen}
 use Rattle.model.proofs.Shape.{shaped}
 use Rattle.ranking.specs.Orders.{levelWith}
-use Rattle.ranking.specs.declared.standings.Standing.{Standing}
+use Rattle.standings.specs.declared.Standing.{Standing}
 use Rattle.selection.specs.Standings.{standing}
 use Rattle.selection.specs.Search.{picked}
 use Rattle.selection.proofs.Elections.{Passed, passed-more, level-first, level-none, top-of, soughtIn, chosen-search, pick-is}
