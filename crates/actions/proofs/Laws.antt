@@ -11,10 +11,10 @@ use Rattle.model.specs.State.{absent, thread}
 use Rattle.model.specs.Event.{kindOf, threadOf, partitionOf, priorityOf, maskOf, known}
 use Rattle.model.specs.Step.{withThread, withReady, withPriority, created, joins, goes, act}
 use Rattle.model.specs.declared.State.{State}
-use Rattle.events.proofs.Action
-use Rattle.events.proofs.Told.{told-not}
-use Rattle.events.specs.declared.Action.{Action}
-use Rattle.events.specs.Kinds.{kindNumber}
+use Rattle.kinds.proofs.Action
+use Rattle.kinds.proofs.Told.{told-not}
+use Rattle.kinds.specs.declared.Action.{Action}
+use Rattle.kinds.specs.Kinds.{kindNumber}
 
 module _ (s : State) (b : List ℕ) where
   pub act-create : kindOf b ≡ 2 → act s b ≡ withThread s (threadOf b) (created (partitionOf b) (priorityOf b) (maskOf b))

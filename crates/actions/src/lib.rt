@@ -1,5 +1,5 @@
 // What each kind of event does to the threads and the ready queue.
-use events::Action;
+use kinds::Action;
 use model::State;
 use model::Thread;
 ghost use mathlib.Core.Path.{_≡_};
@@ -71,7 +71,7 @@ pub fn act(s: State, event: &[u8]) -> State
     ensures { λ r. ⌜ r ≡ Step.act s (now (event .entry)) ⌝ }
 {
     let t = event[1];
-    let action = events::action_of(event[0]);
+    let action = kinds::action_of(event[0]);
     match action {
         Action::Create => create(s, t, event[2], event[3], event[8]),
         Action::Ready => queue::join(s, t),

@@ -7,8 +7,6 @@ use model::State;
 use refusals::Outcome;
 use refusals::Refusal;
 
-pub mod fresh;
-
 // What start answers: the fresh state, or zeros beside a refusal.
 pub struct Started {
     pub outcome: Outcome,

@@ -1,6 +1,6 @@
 // The tests of an event of a known form, one for each refusal from 10 to 13. Each is given only what it looks at: the event's bytes, the
 // thread's record and a few numbers.
-use events::Action;
+use kinds::Action;
 use model::Thread;
 use units::Cycles;
 ghost use mathlib.Core.Path.{_≡_};
@@ -17,7 +17,7 @@ pub fn too_long(event: &[u8], stamp: u32, since: Cycles, tick: Cycles) -> bool
     let elapsed = units::elapsed(new, stamp);
     let after = (since.0 as u64) + (elapsed.0 as u64);
     let most = 2 * (tick.0 as u64);
-    let action = events::action_of(event[0]);
+    let action = kinds::action_of(event[0]);
     match action {
         Action::Resume => false,
         _ => most < after,
@@ -29,7 +29,7 @@ pub fn wrong_thread(event: &[u8], record: Thread) -> bool
     requires { ⌜ length (now event) ≡ 12 ⌝ }
     ensures { λ r. ⌜ r ≡ threadRefused «record» (now (event .entry)) ⌝ }
 {
-    let uses = events::uses_of(event[0]);
+    let uses = kinds::uses_of(event[0]);
     let t = event[1];
     uses.thread & ((64 <= t) | (uses.place == record.exists))
 }
@@ -39,7 +39,7 @@ pub fn wrong_place(event: &[u8], count: u8) -> bool
     requires { ⌜ length (now event) ≡ 12 ⌝ }
     ensures { λ r. ⌜ r ≡ placeRefused count (now (event .entry)) ⌝ }
 {
-    let uses = events::uses_of(event[0]);
+    let uses = kinds::uses_of(event[0]);
     let partition = event[2];
     let mask = event[8];
     uses.place & ((count <= partition) | (mask == 0))
@@ -50,7 +50,7 @@ pub fn wrong_readiness(event: &[u8], record: Thread) -> bool
     requires { ⌜ length (now event) ≡ 12 ⌝ }
     ensures { λ r. ⌜ r ≡ readinessRefused «record» (now (event .entry)) ⌝ }
 {
-    let action = events::action_of(event[0]);
+    let action = kinds::action_of(event[0]);
     match action {
         Action::Ready => record.ready,
         Action::Block => !record.ready,

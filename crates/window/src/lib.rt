@@ -34,7 +34,7 @@ pub fn move_slot(s: State, history: &mut [u32]) -> State
     let window = s.settings.window.0 as usize;
     let count = s.settings.count as usize;
     let old = s.used;
-    let lowered = history::lower(old, &history[..], window, count, slot);
+    let lowered = totals::lower(old, &history[..], window, count, slot);
     history::clear_slot(history, window, count, slot);
     let since = Cycles(0);
     let mut t = s;

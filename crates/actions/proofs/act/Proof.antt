@@ -3,10 +3,10 @@ use Prim.Native.Nat.{_<_, _≤_}
 use native.Mathlib.Omega.{arith}
 use denote.Ref.{now}
 use Rattle.model.specs.Event.{kindOf, threadOf}
-use Rattle.events.specs.declared.Action.{Action}
-use Rattle.events.specs.declared.Action.the-variants.{Create, Ready, Block, SetPriority, End}
-use Rattle.events.specs.Kinds.{kindNumber}
-use Rattle.events.proofs.Told.{told}
+use Rattle.kinds.specs.declared.Action.{Action}
+use Rattle.kinds.specs.declared.Action.the-variants.{Create, Ready, Block, SetPriority, End}
+use Rattle.kinds.specs.Kinds.{kindNumber}
+use Rattle.kinds.proofs.Told.{told}
 use Rattle.actions.proofs.Laws.{act-create, act-ready, act-block, act-priority, act-end, act-none}
 use borrow.Author.Needs.{needs}
 use Rattle.actions.proofs.act.Statement.{statement}

@@ -4,8 +4,8 @@ use mathlib.Core.List.{List, [], _∷_}
 use native.Mathlib.Omega.{arith}
 use denote.Ref.{now}
 use Rattle.model.specs.Event.{known, kindOf}
-use Rattle.events.specs.declared.Action.the-variants.{Resume}
-use Rattle.events.proofs.Told.{told, told-not}
+use Rattle.kinds.specs.declared.Action.the-variants.{Resume}
+use Rattle.kinds.proofs.Told.{told, told-not}
 use Rattle.validation.proofs.Laws.{never-long, long-by}
 use borrow.Author.Needs.{needs}
 use Rattle.validation.proofs.too_long.Statement.{statement}

@@ -1,5 +1,5 @@
 use Rattle.model.specs.Event.{namesPlace}
-use Rattle.events.specs.Kinds.{usesOf}
+use Rattle.kinds.specs.Kinds.{usesOf}
 use Rattle.validation.specs.Tests.{placeRefused}
 use borrow.Author.Needs.{needs}
 use Rattle.validation.proofs.wrong_place.Statement.{statement}

@@ -1,5 +1,5 @@
 use Rattle.model.specs.Event.{namesPlace}
-use Rattle.events.specs.Kinds.{usesOf}
+use Rattle.kinds.specs.Kinds.{usesOf}
 use Rattle.validation.specs.Tests.{threadRefused}
 use Rattle.validation.proofs.Laws.{same-flags}
 use borrow.Author.Needs.{needs}

@@ -2,7 +2,7 @@ use Prim.Native.Nat.{_<_}
 use denote.Ref.{now}
 use Rattle.sheet.specs.Settings.{W}
 use Rattle.model.proofs.Bounds.{next-inside}
-use Rattle.history.proofs.Laws.{covered}
+use Rattle.totals.proofs.Laws.{covered}
 use Rattle.window.proofs.Laws.{moved}
 use borrow.Author.Needs.{needs}
 use Rattle.window.proofs.move_slot.Statement.{statement}

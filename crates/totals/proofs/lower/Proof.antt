@@ -6,9 +6,9 @@ use lib.ListN.{length, length-set}
 use denote.Ref.{now}
 use Rattle.lists.proofs.Parts.{row-end}
 use Rattle.model.specs.Step.{lowerUsed}
-use Rattle.history.proofs.Laws.{lowered-more}
-use Rattle.history.proofs.lower.Statement.{statement}
-use Rattle.history.proofs.lower.Tie as tie
+use Rattle.totals.proofs.Laws.{lowered-more}
+use Rattle.totals.proofs.lower.Statement.{statement}
+use Rattle.totals.proofs.lower.Tie as tie
 
 abbrev Inv-loop : tie.InvT-loop
 Inv-loop history window count slot used lowered₀ p₀ lowered p =

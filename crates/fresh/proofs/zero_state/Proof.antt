@@ -1,6 +1,6 @@
 use borrow.Author.Needs.{needs}
-use Rattle.startup.proofs.fresh.zero_state.Statement.{statement}
-use Rattle.startup.proofs.fresh.zero_state.Tie as tie
+use Rattle.fresh.proofs.zero_state.Statement.{statement}
+use Rattle.fresh.proofs.zero_state.Tie as tie
 
 fresh-state-requires : tie.Need-fresh-state-requires
 fresh-state-requires c κs = search needs
