@@ -2,8 +2,9 @@
 """Has the checker compute the model's definitions on runs of another scheduler.
 
 tests/vectors/NNN has a sheet (shares.txt), events (events.bin) and the lines that a scheduler which shares nothing with the model printed
-for them (expected.txt). For each run this writes a theorem, that the definitions give just these lines, proved by computation alone, into a
-crate of its own in a temporary copy of the repository, and has the checker prove that crate.
+for them (expected.txt). For each run this writes a theorem, that the definitions give just these lines, into a crate of its own in a temporary
+copy of the repository, and has the checker prove that crate. The theorem tests the state before each event, as the doors do; its proof tests
+a state once, by the theorem `tested-once` of crate invariants, and computes the rest.
 
     tests/vectors.py [NNN ..]    all runs, or the named ones
 """
@@ -16,34 +17,68 @@ from pathlib import Path
 ROOT = Path(__file__).resolve().parent.parent
 VECTORS = ROOT / "tests/vectors"
 
-# what the theorems have to look through: every definition of these files that is not an abbreviation
+# what the computation has to look through: every definition of these files that is not an abbreviation
 OPENED = [
     ("lists", "Lists"), ("units", "Units"), ("limits", "Limits"), ("records", "Records"), ("order", "Order"), ("sheet", "Settings"),
-    ("sheet", "Sheet"), ("model", "State"), ("model", "Policy"), ("model", "Sound"), ("model", "Event"), ("model", "Step"),
-    ("model", "Run"), ("model", "Answers"),
+    ("sheet", "Sheet"), ("model", "State"), ("model", "Policy"), ("model", "Event"), ("model", "Step"), ("model", "Answers"),
+    ("invariants", "Once"),
 ]
 
 # the crates that they stand on
-BELOW = ["lists", "refusals", "units", "limits", "records", "order", "sheet", "model"]
+BELOW = ["lists", "refusals", "units", "limits", "records", "order", "sheet", "model", "invariants"]
 
 HEAD = """-- Written by tests/vectors.py.
 use Prim.Native.Nat.{ℕ}
-use mathlib.Core.Path.{_≡_, refl}
-use mathlib.Core.Bool.{cond}
-use mathlib.Core.List.{List, [], _∷_, _++_, map}
+use mathlib.Core.Path.{_≡_, refl, _∙_}
+use mathlib.Core.Bool.{Bool, true, false, cond}
+use mathlib.Core.List.{List, [], _∷_, map}
+use lib.ListN.{length, replicate, length-replicate}
 use lib.Dec.{eqb}
-use Rattle.model.specs.Run.{Entry, fresh, run}
-use Rattle.model.specs.Answers.{refusalLine, answerLine, textOf}
+use borrow.Author.Tests.{eqb-true, le-ltb}
+use native.Mathlib.Omega.{arith}
 use Rattle.sheet.specs.Sheet.{settingsOf, refusedSheet}
+use Rattle.model.specs.State.{wanted}
+use Rattle.model.specs.Step.{Saved}
+use Rattle.model.specs.Run.{Entry, freshState, fresh, run}
+use Rattle.model.specs.Doors.{refusedStart}
+use Rattle.model.specs.Answers.{refusalLine, answerLine, textOf}
+use Rattle.model.proofs.Accepted.{of-fit}
+use Rattle.invariants.specs.Once.{steps}
+use Rattle.invariants.proofs.Answered.{Good}
+use Rattle.invariants.proofs.Fresh.{start-good}
+use Rattle.invariants.proofs.Once.{tested-once}
 """
 
 LINES = """
--- what the desk program prints for a sheet and a list of events
-unfoldable pub printed : List ℕ → List (List ℕ) → List (List ℕ)
-printed sheet events =
+-- a history that just fits the sheet
+unfoldable rows : List ℕ → List ℕ
+rows sheet = replicate (wanted (freshState (settingsOf sheet))) 0
+
+-- what the desk program prints for a sheet and a list of events, by this run of the events
+unfoldable printedBy : (Saved → List (List ℕ) → List Entry) → List ℕ → List (List ℕ) → List (List ℕ)
+printedBy by sheet events =
     cond (eqb (refusedSheet sheet) 0)
-    (map (λ e. textOf (answerLine (e .answer))) (run (fresh (settingsOf sheet) []) events))
+    (map (λ e. textOf (answerLine (e .answer))) (by (fresh (settingsOf sheet) (rows sheet)) events))
     (textOf (refusalLine (refusedSheet sheet)) ∷ [])
+
+room : (sheet : List ℕ) → length (rows sheet) ≡ wanted (freshState (settingsOf sheet))
+unfolding rows
+room sheet = length-replicate _ 0
+
+good : (sheet : List ℕ) → refusedSheet sheet ≡ 0 → Good (settingsOf sheet) (fresh (settingsOf sheet) (rows sheet))
+unfolding refusedStart
+good sheet e =
+    start-good sheet (rows sheet) (rw (e, le-ltb (length (rows sheet)) (wanted (freshState (settingsOf sheet))) (omega (arith, room sheet))))
+
+once : (sheet : List ℕ) (events : List (List ℕ)) → printedBy run sheet events ≡ printedBy steps sheet events
+unfolding printedBy
+once sheet events = go (eqb (refusedSheet sheet) 0) refl
+  where
+    go : (z : Bool) → eqb (refusedSheet sheet) 0 ≡ z → printedBy run sheet events ≡ printedBy steps sheet events
+    go true e =
+        let g : Good (settingsOf sheet) (fresh (settingsOf sheet) (rows sheet)) = good sheet (eqb-true _ _ e) in
+        rw (e, tested-once _ (g .lengths) (of-fit _ _ (g .fit)) events)
+    go false e = rw e
 """
 
 
@@ -71,9 +106,21 @@ def theorem(name):
     lines = [expected[i:i + 12] for i in range(0, len(expected), 12)]
     opened = " ".join(f"{file}.{d}" for crate, file in OPENED for d in definitions(crate, file))
     return f"""
-v{name} : printed ({bytes_list(sheet)}) ({lists(records)}) ≡ {lists(lines)}
-unfolding printed {opened}
-v{name} = refl
+abbrev sheet{name} : List ℕ
+sheet{name} = {bytes_list(sheet)}
+
+abbrev events{name} : List (List ℕ)
+events{name} = {lists(records)}
+
+abbrev lines{name} : List (List ℕ)
+lines{name} = {lists(lines)}
+
+computed{name} : printedBy steps sheet{name} events{name} ≡ lines{name}
+unfolding rows printedBy {opened}
+computed{name} = refl
+
+v{name} : printedBy run sheet{name} events{name} ≡ lines{name}
+v{name} = once sheet{name} events{name} ∙ computed{name}
 """
 
 
