@@ -1,12 +1,11 @@
-// Whether a state's roster is sound: the threads' records and the running thread.
+// The threads' records: whether each is sound, and on which cores a thread may run.
 use model::State;
 use model::Thread;
 ghost use mathlib.Core.Path.{_≡_};
-ghost use mathlib.Core.Bool.{true};
 ghost use Prim.Native.Nat.{_≤_};
 ghost use Rattle.lists.specs.Lists.{all, below};
-ghost use Rattle.model.specs.State.{thread};
-ghost use Rattle.model.specs.Sound.{soundThread, soundQueue, soundRunning};
+ghost use Rattle.model.specs.State.{thread, allows};
+ghost use Rattle.model.specs.Sound.{soundThread};
 
 // "existing threads with a valid partition and a mask other than 0; records of absent threads all zero"
 fn sound_thread(count: u8, r: Thread) -> bool
@@ -33,20 +32,10 @@ pub fn sound_threads(s: State) -> bool
     ok
 }
 
-// "the running one idle, or in the line and allowed". In a sound queue the threads of the line are the ready ones.
-pub fn sound_running(s: State) -> bool
-    requires { ⌜ (soundQueue s ≡ true) × (s .settings .core ≤ 7) ⌝ }
-    ensures { λ r. ⌜ r ≡ soundRunning s ⌝ }
+// The run mask has this core's bit.
+pub fn allowed(mask: u8, core: u8) -> bool
+    requires { ⌜ core ≤ 7 ⌝ }
+    ensures { λ r. ⌜ r ≡ allows mask core ⌝ }
 {
-    let t = s.running;
-    if t == 255 {
-        return true;
-    }
-    if 64 <= t {
-        return false;
-    }
-    let at = t as usize;
-    let record = s.threads[at];
-    let bit = (record.mask >> s.settings.core) % 2;
-    record.ready & (bit == 1)
+    (mask >> core) % 2 == 1
 }

@@ -1,27 +1,18 @@
 // What the ready queue says of each partition.
 ghost use mathlib.Core.Path.{_≡_};
 ghost use Prim.Native.Nat.{_≤_};
-ghost use Rattle.model.specs.State.{allows};
 ghost use Rattle.selection.specs.Needs.{Bounded};
 ghost use Rattle.selection.specs.Claims.{raisedBy, Claims};
 use model::State;
 use model::Thread;
 use standings::Claim;
 
-// The run mask has this core's bit.
-pub fn allowed(mask: u8, core: u8) -> bool
-    requires { ⌜ core ≤ 7 ⌝ }
-    ensures { λ r. ⌜ r ≡ allows mask core ⌝ }
-{
-    (mask >> core) % 2 == 1
-}
-
 // A partition's claim after one more of its threads in the queue. A thread that this core may not run adds nothing.
 fn raised(old: Claim, t: Thread, core: u8) -> Claim
     requires { ⌜ core ≤ 7 ⌝ }
     ensures { λ r. ⌜ r ≡ raisedBy old t core ⌝ }
 {
-    if !allowed(t.mask, core) {
+    if !roster::allowed(t.mask, core) {
         return old;
     }
     if t.priority <= old.top {

@@ -19,7 +19,7 @@ fn sought(t: Thread, partition: u8, priority: u8, core: u8) -> bool
     requires { ⌜ core ≤ 7 ⌝ }
     ensures { λ r. ⌜ r ≡ soughtBy t partition priority core ⌝ }
 {
-    let allowed = super::claims::allowed(t.mask, core);
+    let allowed = roster::allowed(t.mask, core);
     (t.partition == partition) & ((t.priority == priority) & allowed)
 }
 

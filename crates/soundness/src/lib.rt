@@ -23,17 +23,33 @@ fn within_limits(settings: Settings) -> bool
     }
 }
 
+// "the running one idle, or in the line and allowed"
+fn sound_running(s: State) -> bool
+    requires { ⌜ s .settings .core ≤ 7 ⌝ }
+    ensures { λ r. ⌜ r ≡ Model.soundRunning s ⌝ }
+{
+    let t = s.running;
+    if t == 255 {
+        return true;
+    }
+    if 64 <= t {
+        return false;
+    }
+    let at = t as usize;
+    let record = s.threads[at];
+    queue::member(s, t) & roster::allowed(record.mask, s.settings.core)
+}
+
 // The state is sound beside the history, if its settings are within the limits and the history has room for its rows.
 pub fn sound(s: State, history: &[u32]) -> bool
     requires { ⌜ (withinLimits (s .settings) ≡ true) × (wanted s ≤ length (now history)) ⌝ }
     ensures { λ r. ⌜ r ≡ Model.sound s (now (history .entry)) ⌝ }
 {
-    let fine = books::sound_rest(s) & books::sound_history(s, history) & roster::sound_threads(s);
-    let ready = readiness::sound_queue(s);
-    if !ready {
-        return false;
-    }
-    fine & ready & roster::sound_running(s)
+    books::sound_rest(s)
+        & books::sound_history(s, history)
+        & roster::sound_threads(s)
+        & readiness::sound_queue(s)
+        & sound_running(s)
 }
 
 // What every door that is given a state refuses before all else: 8 for settings outside their limits, because the length wanted is worked

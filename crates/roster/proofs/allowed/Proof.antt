@@ -1,7 +1,7 @@
 use Rattle.model.specs.State.{allows}
 use borrow.Author.Needs.{needs}
-use Rattle.selection.proofs.claims.allowed.Statement.{statement}
-use Rattle.selection.proofs.claims.allowed.Tie as tie
+use Rattle.roster.proofs.allowed.Statement.{statement}
+use Rattle.roster.proofs.allowed.Tie as tie
 
 shr-result : tie.Need-shr-result
 shr-result c = search needs
