@@ -228,8 +228,8 @@ module _ (v : Saved) (b : List ℕ) where
         let x : Saved = settle (apply v b) in
         let l : Left x = after-left in
         typed-of (x .state) (x .history) after-sound (l .lengths) after-room
-        (rw (l .settings) (t .settings))
+        (rw (l .settings) (t .state .settings))
         (rw (l .stamp) (stamp-fits y))
-        (l .threads y (t .threads))
+        (l .threads y (t .state .threads))
         (words (x .state .settings) (x .state .used) (x .state .slot .0) (x .state .since .0) (x .history) h (l .settled .limits) after-room
         (l .settled .books) (rw (l .settings) (l .past)) (t .history))

@@ -61,15 +61,17 @@ module _ (s : State) (h : List ℕ) (g : Sound s h) (len : Lengths s) (fits : wa
 
   pub typed-of : SettingsTyped (s .settings) → s .stamp < 2 ^ 32 → ((t : ℕ) → ThreadTyped (thread s t)) → Words h → Typed s h
   typed-of c stamp ts w = record {
-    lengths = len;
-    settings = c;
-    totals = totals-words;
-    stamp = stamp;
-    slot = omega (arith, k .books .inside, k .limits .window-high);
-    since = omega (arith, k .books .since-high, k .limits .tick-high);
-    threads = ts;
-    queue = queue-bytes;
-    queued = omega (arith, k .stored .few);
-    running = running-byte;
+    state = record {
+      lengths = len;
+      settings = c;
+      totals = totals-words;
+      stamp = stamp;
+      slot = omega (arith, k .books .inside, k .limits .window-high);
+      since = omega (arith, k .books .since-high, k .limits .tick-high);
+      threads = ts;
+      queue = queue-bytes;
+      queued = omega (arith, k .stored .few);
+      running = running-byte;
+    };
     history = w;
   }

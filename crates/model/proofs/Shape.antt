@@ -22,20 +22,8 @@ use Rattle.sheet.specs.declared.Settings.{Settings}
 use Rattle.model.specs.declared.Thread.{Thread}
 use Rattle.units.specs.declared.Cycles.{Cycles}
 use Rattle.units.specs.declared.Percent.{Percent}
-use Rattle.model.specs.State.{absent, thread, used}
-use Rattle.model.specs.Typed.{Lengths, SettingsTyped, ThreadTyped, Bytes}
-
-pub record Shaped (s : State) : Type 0 where
-  pub lengths : Lengths s
-  pub settings : SettingsTyped (s .settings)
-  pub totals : (p : ℕ) → used s p < 2 ^ 32
-  pub stamp : s .stamp < 2 ^ 32
-  pub slot : s .slot .0 < 2 ^ 32
-  pub since : s .since .0 < 2 ^ 32
-  pub threads : (t : ℕ) → ThreadTyped (thread s t)
-  pub queue : Bytes (s .queue)
-  pub queued : s .queued < 256
-  pub running : s .running < 256
+use Rattle.model.specs.State.{absent}
+use Rattle.model.specs.Typed.{SettingsTyped, ThreadTyped, StateTyped}
 
 -- what each element's relation tells, at an index, where an array's elements stand in the record as g has them
 each-holds : (d e : Type 0) (f : d → List Val → Fml) (g : e → d) (P : e → Type 0) (z : e) → P z → ((x : e) (u : Val) → shadow (f (g x) (u ∷ [])) → P x) → (xs : List e) (us : List Val) (i : ℕ) → shadow (each d f (map g xs) us) → P (getD xs i z)
@@ -70,7 +58,7 @@ settings-fit c us g =
       },
     )
 
-pub shaped : (s : State) {vs : List Val} → Is State.the-row s vs → Shaped s
+pub shaped : (s : State) {vs : List Val} → Is State.the-row s vs → StateTyped s
 shaped s g =
     let fields = g .1 .1 in
     let config = settings-fit (s .settings) (g .0 .0) (fields .0) in

@@ -35,7 +35,7 @@ Words l = (i : ℕ) → getD l i 0 < 2 ^ 32
 abbrev pub Bytes : List ℕ → Type 0
 Bytes l = (i : ℕ) → getD l i 0 < 256
 
-pub record Typed (s : State) (h : List ℕ) : Type 0 where
+pub record StateTyped (s : State) : Type 0 where
   pub lengths : Lengths s
   pub settings : SettingsTyped (s .settings)
   pub totals : (p : ℕ) → used s p < 2 ^ 32
@@ -46,4 +46,8 @@ pub record Typed (s : State) (h : List ℕ) : Type 0 where
   pub queue : Bytes (s .queue)
   pub queued : s .queued < 256
   pub running : s .running < 256
+
+-- a state and a history
+pub record Typed (s : State) (h : List ℕ) : Type 0 where
+  pub state : StateTyped s
   pub history : Words h
