@@ -1,8 +1,9 @@
 """The edits that must be refused, crates/*/must-fail/*.edit, as the faults that they hold.
 
 Beside the replacements that the prover makes (file:, old:, new:) an edit has for each fault `breaks:` and the place where the proof must break:
-a function, whose own proof it is, or a file of laws. An edit of one fault has the fault's name. An edit of several, in functions that do not call
-each other, has `fault:` and its name before each: one check tries them all.
+a function, whose own proof it is, or a file of laws. An edit of one fault has the fault's name. An edit of several, each in a function of its own,
+has `fault:` and its name before each: one check tries them all. (A proof rests on what its callees promise, which no fault changes, and not on
+their code.)
 """
 from dataclasses import dataclass
 from pathlib import Path
