@@ -1,15 +1,16 @@
 #!/usr/bin/env python3
 """tools/events: a line of each kind is document 01's record, and the record that line; any stream of records comes back from its text byte
 for byte; and a line that makes no sense is refused with its number."""
-import importlib.machinery
 import random
 import subprocess
 import sys
-import types
 from pathlib import Path
 
 ROOT = Path(__file__).resolve().parent.parent
 TOOL = ROOT / "tools/events"
+sys.path.insert(0, str(ROOT / "tools"))
+from lib import records  # in this process: a process for each stream and direction would take ten seconds
+
 # a line of each kind, and its record by the paper's table: kind, thread, partition, priority, stamp (low byte first), mask, three zeros
 KNOWN = [
     ("300 tick", "01 00 00 00 2c 01 00 00 00 000000"),
@@ -20,6 +21,8 @@ KNOWN = [
     ("3 end 4", "06 04 00 00 03 00 00 00 00 000000"),
     ("65536 resume", "07 00 00 00 00 00 01 00 00 000000"),
 ]
+# a line that stands for many ticks, and its records; the counter wraps
+MANY = ("4294967295 ticks 3 every 256", "01000000 ffffffff 00000000" "01000000 ff000000 00000000" "01000000 ff010000 00000000")
 BAD = [
     ("x tick", "line 1: stamp is a whole number"),
     ("5", "line 1: a stamp alone"),
@@ -31,18 +34,12 @@ BAD = [
     ("1 ready 0,5", "line 1: thread is a whole number"),
     ("1 fly", "line 1: 'fly' is no event"),
     ("1 priority 3 be 4", "line 1: 'to' is wanted"),
+    ("1 ticks 3", "line 1: write it as: STAMP ticks COUNT every PERIOD"),
+    ("1 ticks 9999999 every 5", "line 1: count is at most 1000000"),
     ("raw zz", "line 1: raw takes bytes in hexadecimal"),
     ("raw 00000000000000000000000000", "line 1: raw takes 1 to 12 bytes"),
     ("raw 01\n5 tick", "line 2: only the last record may be cut"),
 ]
-
-
-def loaded():
-    """The tool's functions, in this process: a process for each stream and direction would take ten seconds."""
-    sys.dont_write_bytecode = True
-    module = types.ModuleType("events")
-    importlib.machinery.SourceFileLoader("events", str(TOOL)).exec_module(module)
-    return module
 
 
 def tool(word, data):
@@ -55,9 +52,8 @@ def main():
     draw = random.Random(1)
     streams = [p.read_bytes() for p in sorted(ROOT.glob("tests/vectors/*/events.bin"))]
     streams += [bytes(draw.choice((0, 0, 1, 2, 3, 4, 5, 6, 7, 8, 255)) for _ in range(draw.randrange(90))) for _ in range(60)]
-    events = loaded()
     for stream in streams:
-        if events.encode(events.decode(stream)) != stream:
+        if records.encode(records.decode(stream)) != stream:
             wrong += 1
             print(f"events: {stream.hex()} came back otherwise")
     for stream in streams[:3] + streams[-3:]:
@@ -66,15 +62,18 @@ def main():
             print(f"events: {stream.hex()} came back otherwise from the program")
     for text, record in KNOWN:
         data = bytes.fromhex(record)
-        if events.encode(text) != data or events.decode(data).split() != text.split():
+        if records.encode(text) != data or records.decode(data).split() != text.split():
             wrong += 1
             print(f"events: {text!r} and {data.hex()} are not each other's")
+    if records.encode(MANY[0]) != bytes.fromhex(MANY[1]):
+        wrong += 1
+        print(f"events: {MANY[0]!r} is not {MANY[1]!r}")
     for text, reason in BAD:
         done = tool("encode", text.encode())
         if done.returncode == 0 or done.stdout or reason not in done.stderr.decode():
             wrong += 1
             print(f"events: {text!r}: {done.stderr.decode()!r} does not say {reason!r}")
-    print(f"events: {len(KNOWN)} lines as the paper has them, {len(streams)} streams there and back, {len(BAD)} bad lines refused, {wrong} wrong")
+    print(f"events: {len(KNOWN) + 1} lines as the paper has their records, {len(streams)} streams there and back, {len(BAD)} bad lines refused, {wrong} wrong")
     sys.exit(wrong != 0)
 
 
