@@ -1,0 +1,181 @@
+#!/usr/bin/env python3
+"""tools/sheet: on thousands of sheets, good, damaged and typed as people type them, the explanation's number is the proved program's, and there is
+an explanation exactly where there is a number; a byte that was damaged is found where it is; known faults are named; encode and decode are
+each other's; bounds are those of document 01.
+"""
+import random
+import subprocess
+import sys
+import tempfile
+from pathlib import Path
+
+ROOT = Path(__file__).resolve().parent.parent
+sys.path.insert(0, str(ROOT / "tools"))
+from lib import faults, programs, sheets
+
+TOOL = ROOT / "tools/sheet"
+
+
+def written(window=100, tick=1000, policy=0, core=0, shares=(40, 20, 10, 30)):
+    """A sheet by document 01's table, not by the tool."""
+    head = "W 00 %06d\nC 00 %06d\nP 00 %06d\nM 00 %06d\n" % (window, tick, policy, core)
+    return (head + "".join("S %02d %06d\n" % (p, s) for p, s in enumerate(shares))).encode()
+
+
+GOOD = written()
+# what a person's hand or editor does to a sheet: the number by document 01, the place, and a word of the cause
+KNOWN = [
+    ("Windows line ends", GOOD.replace(b"\n", b"\r\n"), 1, 1, 12, "Windows line ends"),
+    ("a byte order mark", b"\xef\xbb\xbf" + GOOD, 1, 1, 1, "byte order mark"),
+    ("UTF-16", GOOD.decode().encode("utf-16"), 1, 1, 1, "UTF-16"),
+    ("old line ends", GOOD.replace(b"\n", b"\r"), 2, 1, 12, "carriage return alone"),
+    ("no last line feed", GOOD[:-1], 1, 8, 12, "line feed"),
+    ("a space at the end of a line", GOOD.replace(b"000020\n", b"000020 \n"), 1, 6, 12, "space or tab at the end"),
+    ("0,5 as it is typed", GOOD.replace(b"S 01 000020", b"S 01 0,5"), 1, 6, 7, "half percents do not exist"),
+    ("0.5 as it is typed", GOOD.replace(b"S 01 000020", b"S 01 0.5"), 1, 6, 7, "half percents do not exist"),
+    ("0000,5", GOOD.replace(b"S 01 000020", b"S 01 0000,5"), 2, 6, 10, "half percents do not exist"),
+    ("a share without its zeros", GOOD.replace(b"000040", b"40"), 1, 5, 8, "six are wanted, as in S 00 000040"),
+    ("a partition's number without its zero", GOOD.replace(b"S 01 ", b"S 1 "), 1, 6, 3, "two digits"),
+    ("a percent sign", GOOD.replace(b"000040", b"00040%"), 2, 5, 11, "percent sign"),
+    ("the letter O", GOOD.replace(b"000040", b"00004O"), 2, 5, 11, "letter O"),
+    ("a small letter", GOOD.replace(b"W", b"w"), 2, 1, 1, "capital W"),
+    ("a tab", GOOD.replace(b"C 00 ", b"C\t00 "), 2, 2, 2, "a tab"),
+    ("a comment", b"# my sheet\n" + GOOD, 1, 1, 1, "no comments"),
+    ("an empty line in between", GOOD.replace(b"C 00", b"\nC 00"), 1, 2, 1, "empty"),
+    ("an empty line at the end", GOOD + b"\n", 1, 9, 1, "empty"),
+    ("no M line", GOOD[:36] + GOOD[48:], 2, 4, 1, "the M line is wanted"),
+    ("S 02 twice", GOOD.replace(b"S 03", b"S 02"), 2, 8, 4, "begins with 'S 03 '"),
+    ("an empty file", b"", 1, 1, 1, "empty"),
+    ("four records", GOOD[:48], 1, 4, 1, "4 of at least 5"),
+    ("21 records", written(shares=(84,) + (1,) * 16), 1, 21, 1, "21 lines"),
+    ("W 401", written(window=401), 3, 1, 6, "401 ticks"),
+    ("C 150", written(tick=150), 4, 2, 6, "150 cycles"),
+    ("P 2", written(policy=2), 5, 3, 6, "policy is 2"),
+    ("M 8", written(core=8), 5, 4, 6, "core is 8"),
+    ("a sum of 99", written(shares=(40, 20, 10, 29)), 6, 5, 6, "add up to 99"),
+    ("a sum of 101", written(shares=(40, 20, 10, 31)), 6, 5, 6, "add up to 101"),
+    ("a share of 101", written(shares=(0, 101)), 6, 6, 6, "101"),
+]
+# document 01's example (W 100, C 1000, four partitions, share 10), and the sheet of ten ticks on which two jobs are promised nothing
+BOUNDS = [(written(), (37750, 17750, 7750, 27750)), (written(window=10), (1750, -250, -1250, 750))]
+
+
+def some_good(draw):
+    shares = [0] * draw.randint(1, 16)
+    for _ in range(100):
+        shares[draw.randrange(len(shares))] += 1
+    return written(draw.randint(2, 400), 100 * draw.randint(1, 9999), draw.randrange(2), draw.randrange(8), shares)
+
+
+def some_near(draw):
+    """Right in form, and at or past a limit."""
+    shares = list(draw.choice(((50, 50), (99,), (100,), (101,), (0, 100), (60, 41), (999999, 1), (100, 100))))
+    return written(draw.choice((0, 1, 2, 400, 401, 999999)), draw.choice((0, 99, 100, 150, 999900, 999999)), draw.choice((0, 1, 2, 256)),
+                   draw.choice((0, 7, 8, 256)), shares)
+
+
+def some_damaged(draw):
+    """A good sheet with one to three changes: a byte, a line, or a piece."""
+    data = some_good(draw)
+    for _ in range(draw.randint(1, 3)):
+        at, to = draw.randrange(len(data) + 1), draw.randrange(len(data) + 1)
+        byte = bytes([draw.choice(b"0123456789,. \t\r\nWCPMSwO#%\x00\xef\xff")])
+        lines = data.splitlines(keepends=True)
+        if draw.random() < 0.3 and lines:
+            line = draw.randrange(len(lines))
+            data = b"".join(draw.choice((lines[:line] + lines[line + 1:], lines[:line] + [lines[line]] + lines[line:], lines[::-1])))
+        else:
+            data = draw.choice((data[:at] + byte + data[at + 1:], data[:at] + byte + data[at:], data[:at] + data[at + 1:], data[:min(at, to)]))
+    return data
+
+
+def some_typed(draw):
+    """A sheet as it is typed: numbers without zeros, halves, other line ends, spaces, comments."""
+    shares = [draw.choice(("0,5", "0.5", "40", "000040", "7", "100", "050%", "0000,5")) for _ in range(draw.randint(0, 5))]
+    values = [("W", 0, draw.choice(("100", "000100", "000010"))), ("C", 0, draw.choice(("1000", "001000"))), ("P", 0, "000000"), ("M", 0, "000000")]
+    values += [("S", p, share) for p, share in enumerate(shares)]
+    form = draw.choice(("{} {:02d} {}", "{} {} {}", "{}  {:02d} {}", "{}\t{:02d}\t{}"))
+    end = draw.choice(("\n", "\r\n", " \n", "\r", "\n\n"))
+    text = draw.choice(("", "", "\ufeff", "# shares\n")) + end.join(form.format(*v) for v in values) + draw.choice(("", end))
+    return text.encode()
+
+
+def tool(*words, data=b""):
+    return subprocess.run([TOOL, *words], input=data, stdout=subprocess.PIPE, stderr=subprocess.PIPE, timeout=20)
+
+
+def main():
+    wrong = []
+
+    def expect(holds, said):
+        if not holds:
+            wrong.append(said)
+            print(f"explained: {said}")
+
+    def judged(data):
+        """The explanation of a sheet, held to the program's answer."""
+        found, number = faults.find(data), programs.check_sheet(data)
+        expect(found.number == number, f"{data!r} is {number} to the program and {found.number} to the explanation")
+        expect(bool(found.faults) == (number != 0), f"{data!r} is {number} and is explained by {found.faults}")
+        return found
+
+    draw = random.Random(14)
+    makers = [(some_good, 300), (some_near, 500), (some_damaged, 1200), (some_typed, 500)]
+    for maker, count in makers:
+        for _ in range(count):
+            judged(maker(draw))
+
+    # one byte of the good sheet, changed: that byte is named
+    for at in range(len(GOOD)):
+        byte = draw.choice(b"/:x_-,.%\x01\x80" if at % 12 == 11 else b"/:x_-,.%\x00\x80")
+        found = judged(GOOD[:at] + bytes([byte]) + GOOD[at + 1:])
+        expect(found.faults[0][:2] == (at // 12 + 1, at % 12 + 1), f"byte {at} as {byte} is sought at {found.faults[0]}")
+
+    with tempfile.TemporaryDirectory() as folder:
+        path = Path(folder) / "shares.txt"
+        for name, data, number, line, column, cause in KNOWN:
+            judged(data)
+            path.write_bytes(data)
+            done = tool("check", path)
+            said = done.stdout.decode()
+            expect(done.returncode == 1 and said.startswith(f"refused with {number}\n") and f"line {line}, column {column}" in said
+                   and cause in said, f"{name}: status {done.returncode}, {said!r}")
+        for data, bounds in BOUNDS:
+            path.write_bytes(data)
+            done = tool("check", path)
+            sheet = sheets.read(data)
+            expect(done.returncode == 0 and tuple(map(sheet.bound, range(4))) == bounds, f"{data!r} has other bounds than {bounds}")
+            for partition, bound in enumerate(bounds):
+                row = f"{bound:,}" if bound > 0 else f"nothing ({bound:,})"
+                expect(any(text.startswith(f"partition {partition} ") and text.endswith(" " + row) for text in done.stdout.decode().splitlines()),
+                       f"{data!r}: nothing says {row} of partition {partition}")
+            expect(done.stdout.count(b"warning") == sum(b <= 0 for b in bounds), f"{data!r}: not a warning for each bound that is not above 0")
+        path.write_bytes(written(shares=(100, 0)))
+        expect(b"warning: partition 1 has a share of 0" in tool("check", path).stdout, "a share of 0 is not warned of")
+        (Path(folder) / "names.txt").write_text("1 the radio\n")
+        expect(b"warning: the radio has a share of 0" in tool("check", path).stdout, "a name is not used")
+
+    # there and back; what is no sheet is not written
+    for _ in range(100):
+        data = some_good(draw)
+        expect(sheets.write(sheets.read_plain(sheets.plain(sheets.read(data)))) == data, f"{data!r} came back otherwise")
+    plain = b"window 100 # ticks\nshare 1 20\nshare 0 40\nshare 2 10\n\nshare 3 30\ntick 1000\n"
+    expect(tool("encode", data=plain).stdout == GOOD, "plain lines are not the sheet that they say")
+    expect(tool("decode", data=GOOD).stdout == b"window 100\ntick 1000\npolicy 0\ncore 0\nshare 0 40\nshare 1 20\nshare 2 10\nshare 3 30\n",
+           "the good sheet is not decoded as it is")
+    for text, reason in [(b"window 100\ntick 1000\nshare 0 0,5", b"line 3: share 0 is a whole number, and not '0,5'"), (b"tick 1000\nshare 0 100", b"window"),
+                         (b"window 100\ntick 1000\nshare 1 100", b"share 0"), (b"window 4\nwindow 5", b"line 2: window is there twice"),
+                         (b"window 100\ntick 1000\nshare 0 99", b"refused with 6"), (b"window 100\ntick 1000", b"refused with 1"),
+                         (b"window 1000000", b"six digits"), (b"share 16 5", b"0 to 15"), (b"weight 3", b"write it as")]:
+        done = tool("encode", data=text)
+        expect(done.returncode == 1 and not done.stdout and reason in done.stderr, f"{text!r}: {done.stderr!r} does not say {reason!r}")
+    expect(tool("decode", data=GOOD[:-1]).returncode == 1, "a cut sheet is decoded")
+    expect([tool().returncode, tool("check").returncode, tool("check", "/nowhere/at/all").returncode, tool("--help").returncode] == [2, 2, 2, 0],
+           "bad usage has another status than 2, or help another than 0")
+
+    print(f"explained: {sum(c for _, c in makers) + len(GOOD) + len(KNOWN)} sheets have the program's number, {len(wrong)} things wrong")
+    sys.exit(bool(wrong))
+
+
+if __name__ == "__main__":
+    main()
