@@ -1,0 +1,83 @@
+"""Each event beside its line, in words."""
+from lib import records
+from lib.scheduler import MODES, NOBODY
+
+
+def meaning(step, day, names):
+    """A line of the desk in words."""
+    line = step.line
+    if line.refusal:
+        return f"REFUSED ({line.refusal}), {day.source(step.number - 1)}: {step.words}"
+    if line.thread == NOBODY:
+        return "idle"
+    return f"{names[line.partition]} runs (thread {line.thread}), {MODES[line.mode]}"
+
+
+class Row:
+    """One event, or several that one line of day.txt stands for and that got the same answer."""
+
+    def __init__(self, step, text, words):
+        self.first = self.last = step.number
+        self.text, self.line, self.words = text, str(step.line), words
+
+    def joins(self, other, day):
+        """Whether a later row says the same of the next event of the same line of text."""
+        return bool(day.text) and day.places[self.last - 1] == day.places[other.first - 1] and (self.line, self.words) == (other.line, other.words)
+
+    def join(self, other):
+        self.last, self.text = other.last, f"{self.text.split(' .. ')[0]} .. {other.text}"
+
+    def shown(self):
+        number = f"{self.first}" if self.first == self.last else f"{self.first}-{self.last}"
+        return f"{number:>9}  {self.line}  {self.text:<46}  {self.words}"
+
+
+class Listing:
+    """The rows of a day, collected step by step: comments and empty lines of day.txt as they are, events with their answers."""
+
+    def __init__(self, day, names):
+        self.day, self.names = day, names
+        self.place = 0      # how many lines of day.txt are done
+        self.rows = []      # text, or a row that the next event may join
+
+    def take(self, step):
+        row = Row(step, records.decode_record(step.data), meaning(step, self.day, self.names))
+        if self.day.text:
+            self.remarks(self.day.places[step.number - 1])
+        if self.rows and isinstance(self.rows[-1], Row) and self.rows[-1].joins(row, self.day):
+            self.rows[-1].join(row)
+        else:
+            self.rows.append(row)
+
+    def remarks(self, place):
+        """What the lines of day.txt up to this one say to people: their comments, and the empty lines."""
+        for line in self.day.text[self.place:place]:
+            event, sign, comment = line.partition("#")
+            if sign:
+                self.rows.append(f"{'':9}  #{comment.rstrip()}")
+            elif not event.strip():
+                self.rows.append("")
+        self.place = max(self.place, place)
+
+    def close(self):
+        self.remarks(len(self.day.text))
+
+    def text(self):
+        return [row if isinstance(row, str) else row.shown() for row in self.rows]
+
+
+class Refused:
+    """The refused events alone."""
+
+    def __init__(self, day, names):
+        self.day, self.names, self.rows = day, names, []
+
+    def take(self, step):
+        if not step.accepted:
+            self.rows.append(f"event {step.number}: {meaning(step, self.day, self.names)}")
+
+    def close(self):
+        pass
+
+    def text(self):
+        return self.rows

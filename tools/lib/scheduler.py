@@ -1,0 +1,264 @@
+"""Document 01's rules for one core, as plain as they can be said: what an event is refused for, what it charges and changes, and who runs next.
+
+The tools need this to say why, and what was used. They never answer by it alone: replay.py holds every step to the line of the proved desk.
+"""
+from typing import NamedTuple
+
+from lib import records
+from lib.records import BLOCK, CREATE, END, FORMS, PRIORITY, READY, RESUME, TICK
+from lib.text import count
+
+THREADS = 64
+NOBODY = 255
+IDLE, FREE_TIME, UNDERLOAD, AT_LIMIT = range(4)
+MODES = ("idle", "free time", "underload", "at limit")
+
+
+class Refusal(NamedTuple):
+    number: int
+    words: str
+
+
+class Decision(NamedTuple):
+    mode: int
+    partition: int
+    thread: int
+
+
+class Thread:
+    """A thread that exists."""
+    def __init__(self, partition, priority, mask):
+        self.partition, self.priority, self.mask, self.ready = partition, priority, mask, False
+
+
+class Standing(NamedTuple):
+    """What is compared of a partition. `top` is None where it does not compete."""
+    partition: int
+    top: int
+    used: int
+    budget: int
+    enough: int
+
+    @property
+    def competing(self):
+        return self.top is not None
+
+    @property
+    def remaining(self):
+        return self.budget - self.used
+
+    @property
+    def has_budget(self):
+        return self.remaining >= self.enough
+
+
+# ---- the order of partitions. A criterion is above 0 where the first standing is better than the second, below 0 where it is worse.
+
+def by_budget(a, b):
+    return a.has_budget - b.has_budget
+
+
+def by_priority(a, b):
+    return a.top - b.top
+
+
+def by_fraction(a, b):
+    """The smaller fraction used is better, by cross products; a budget of 0 is worse than every other."""
+    if a.budget == 0 or b.budget == 0:
+        return (a.budget > 0) - (b.budget > 0)
+    return b.used * a.budget - a.used * b.budget
+
+
+NAMES = {by_budget: "has budget", by_priority: "top priority", by_fraction: "fraction used"}
+
+
+def criteria(mode, policy):
+    """What partitions are compared by in a mode, first to last. What is equal in all of them goes to the lowest number."""
+    if mode == AT_LIMIT:
+        return (by_fraction,)
+    if mode == FREE_TIME and policy == 1:
+        return (by_budget, by_fraction)
+    return (by_budget, by_priority, by_fraction)
+
+
+def settled(a, b, order):
+    """The criterion that tells two standings apart, and how; None where nothing does."""
+    for criterion in order:
+        if difference := criterion(a, b):
+            return criterion, difference
+    return None
+
+
+def mode_of(standings):
+    competing = [s for s in standings if s.competing]
+    if not competing:
+        return IDLE
+    if any(s.budget > 0 and not s.competing for s in standings):
+        return FREE_TIME
+    return UNDERLOAD if any(s.has_budget for s in competing) else AT_LIMIT
+
+
+def winner(standings, order):
+    """The best of those that compete; a later one has to be better."""
+    best = None
+    for standing in standings:
+        if standing.competing:
+            apart = best and settled(standing, best, order)
+            if best is None or (apart and apart[1] > 0):
+                best = standing
+    return best
+
+
+class Scheduler:
+    """The state after some accepted events."""
+
+    def __init__(self, sheet):
+        self.sheet = sheet
+        self.budgets = [sheet.budget(p) for p in range(len(sheet.shares))]
+        self.threads = {}
+        self.line = []
+        self.running = NOBODY
+        self.competing = set()
+        self.stamp = 0
+        self.forget()
+
+    def forget(self):
+        """The window as it is after a start or a resume: nothing used."""
+        self.slot = self.since_tick = 0
+        self.rows = [[0] * self.sheet.window for _ in self.budgets]
+        self.used = [0] * len(self.budgets)
+
+    def allowed(self, thread):
+        """Whether this core may run it."""
+        return self.threads[thread].mask >> self.sheet.core & 1 == 1
+
+    def running_partition(self):
+        return None if self.running == NOBODY else self.threads[self.running].partition
+
+    def elapsed(self, event):
+        return (event.stamp - self.stamp) % 2**32
+
+    # ---- refusals, in document 01's order
+
+    def refusal(self, data):
+        """Why a record is refused, or None. 7 and 8 are for states and memory from elsewhere, and do not occur in a day."""
+        if len(data) < records.LENGTH:
+            return Refusal(14, f"the record is cut: {len(data)} of {records.LENGTH} bytes")
+        event = records.read(data)
+        return self.form_refusal(event) or self.time_refusal(event) or self.thread_refusal(event) or self.place_refusal(event) \
+            or self.ready_refusal(event)
+
+    def form_refusal(self, event):
+        if event.kind not in FORMS:
+            return Refusal(9, f"there is no kind {event.kind} of event")
+        unused = [name for name in ("thread", "partition", "priority", "mask") if name.upper() not in FORMS[event.kind] and getattr(event, name)]
+        if unused or any(event.rest):
+            return Refusal(9, f"a {FORMS[event.kind][0]} does not use its byte for {unused[0] if unused else 'later use'}, and that byte is not 0")
+        return None
+
+    def time_refusal(self, event):
+        elapsed, most = self.elapsed(event), 2 * self.sheet.tick
+        if event.kind == RESUME or self.since_tick + elapsed <= most:
+            return None
+        if elapsed >= 2**31:
+            return Refusal(10, f"the clock goes back by {count(2**32 - elapsed)}")
+        return Refusal(10, f"it would be {count(self.since_tick + elapsed)} cycles since the last tick, and two tick periods are {count(most)}: "
+                           "a tick is missing, or a resume after a sleep")
+
+    def thread_refusal(self, event):
+        if event.kind in (TICK, RESUME):
+            return None
+        if event.thread >= THREADS:
+            return Refusal(11, f"threads are numbered 0 to {THREADS - 1}, and this one {event.thread}")
+        if event.kind == CREATE and event.thread in self.threads:
+            return Refusal(11, f"there is a thread {event.thread} already")
+        if event.kind != CREATE and event.thread not in self.threads:
+            return Refusal(11, f"there is no thread {event.thread}")
+        return None
+
+    def place_refusal(self, event):
+        if event.kind == CREATE and event.partition >= len(self.budgets):
+            return Refusal(12, f"the sheet has partitions 0 to {len(self.budgets) - 1}, and not {event.partition}")
+        if event.kind == CREATE and event.mask == 0:
+            return Refusal(12, "its mask is 0: it could run on no core")
+        return None
+
+    def ready_refusal(self, event):
+        if event.kind == READY and self.threads[event.thread].ready:
+            return Refusal(13, f"thread {event.thread} is ready already")
+        if event.kind == BLOCK and not self.threads[event.thread].ready:
+            return Refusal(13, f"thread {event.thread} is not ready, so it cannot block")
+        return None
+
+    # ---- an accepted event
+
+    def charge(self, event):
+        """Step 1: the elapsed time goes to the running thread's partition; idle time to no account. Answers how much it was."""
+        elapsed = 0 if event.kind == RESUME else self.elapsed(event)
+        partition = self.running_partition()
+        if partition is not None:
+            self.rows[partition][self.slot] += elapsed
+            self.used[partition] += elapsed
+        self.since_tick += elapsed
+        self.stamp = event.stamp
+        return elapsed
+
+    def act(self, event):
+        """Step 2: what the kind does."""
+        if event.kind == TICK:
+            self.next_slot()
+        elif event.kind == CREATE:
+            self.threads[event.thread] = Thread(event.partition, event.priority, event.mask)
+        elif event.kind == READY:
+            self.threads[event.thread].ready = True
+            self.line.append(event.thread)
+        elif event.kind == BLOCK:
+            self.leave(event.thread)
+        elif event.kind == PRIORITY:
+            self.threads[event.thread].priority = event.priority
+        elif event.kind == END:
+            if self.threads[event.thread].ready:
+                self.leave(event.thread)
+            del self.threads[event.thread]
+        elif event.kind == RESUME:
+            self.forget()
+
+    def next_slot(self):
+        self.slot = (self.slot + 1) % self.sheet.window
+        self.since_tick = 0
+        for partition, row in enumerate(self.rows):
+            self.used[partition] -= row[self.slot]
+            row[self.slot] = 0
+
+    def leave(self, thread):
+        self.threads[thread].ready = False
+        self.line.remove(thread)
+
+    # ---- the decision
+
+    def tops(self):
+        """The top priority of each partition that competes."""
+        tops = {}
+        for number in self.line:
+            thread = self.threads[number]
+            if self.allowed(number) and thread.priority >= tops.get(thread.partition, 0):
+                tops[thread.partition] = thread.priority
+        return tops
+
+    def standings(self):
+        tops, enough = self.tops(), self.sheet.enough()
+        return [Standing(p, tops.get(p), self.used[p], budget, enough) for p, budget in enumerate(self.budgets)]
+
+    def candidates(self, best):
+        """The threads of the best partition that may run and have its top priority, in the order of the line; the first is chosen."""
+        return [t for t in self.line if self.allowed(t) and self.threads[t].partition == best.partition and self.threads[t].priority == best.top]
+
+    def decide(self):
+        """Step 3: the decision, whose thread is the running one from now on."""
+        standings = self.standings()
+        self.competing = {s.partition for s in standings if s.competing}
+        mode = mode_of(standings)
+        best = winner(standings, criteria(mode, self.sheet.policy))
+        decision = Decision(mode, best.partition, self.candidates(best)[0]) if best else Decision(IDLE, 0, NOBODY)
+        self.running = decision.thread
+        return decision

@@ -1,0 +1,79 @@
+"""The day's account in words, the same for the terminal and the page."""
+from lib.account import RAN, RAN_A_LITTLE, RESUMED, SLEPT, WAITED
+from lib.text import columns, count, percent
+
+HEADS = ("job", "share", "charged", "of the whole", "waited", "longest wait", "promised", "least it got")
+SIDES = "lrrrrrrr"
+STRIP = 100
+STARVED = "STARVED: "
+
+
+def heading(account):
+    return (f"{count(account.events)} events, {count(account.refused)} of them refused; {count(account.ticks)} ticks; {count(account.now)} cycles, "
+            f"of which {count(account.idle)} idle ({percent(account.idle, account.now)})")
+
+
+def rows(account, names):
+    """A row for each job: its share, its charges and waits in cycles, and in a stretch what it is promised and the least that it got."""
+    for partition, job in enumerate(account.jobs):
+        bound = account.sheet.bound(partition)
+        yield (names[partition], f"{account.sheet.shares[partition]} %", count(job.charged), percent(job.charged, account.now), count(job.waited),
+               count(job.longest), count(bound) if bound > 0 else "nothing", count(job.least) if job.stretches else "-")
+
+
+def explained(account):
+    return (f"All but shares are cycles. Promised, and the least it got: in a stretch of {account.sheet.stretch()} ticks that come on time and in which the "
+            "job always wants the processor.")
+
+
+def remarks(account, names):
+    """What there is to say of each job: starved or not, promise or none, and whether the day shows the promise."""
+    sheet, found = account.sheet, []
+    stretch = f"{sheet.stretch()} ticks"
+    for partition, job in enumerate(account.jobs):
+        name, bound = names[partition], sheet.bound(partition)
+        if account.starved(partition):
+            found.append(f"{STARVED}{name} waited {count(job.longest)} cycles, up to cycle {count(job.longest_end)} of the day, "
+                         f"without one of its own; that is longer than {stretch}")
+        if bound <= 0:
+            least = f"; the least it got in {stretch} that it wanted was {count(job.least)}" if job.stretches else ""
+            found.append(f"no promise: {name} has a bound of {count(bound)}, which is not above 0{least}")
+        elif job.stretches:
+            found.append(f"promise kept: {name} got {count(job.least)} cycles or more in each of the {count(job.stretches)} stretches of {stretch} "
+                         f"that it wanted; {count(bound)} are promised")
+        else:
+            found.append(f"promise not called on: {name} never wanted the processor for {stretch} in a row, all of them on time")
+    if not any(account.starved(partition) for partition in range(len(account.jobs))):
+        found.insert(0, f"nobody starved: no job waited longer than {stretch} ({count(sheet.stretch() * sheet.tick)} cycles) without a cycle")
+    return found
+
+
+def ruler(ticks):
+    """The numbers of every tenth tick, from the first on, each from above its character on."""
+    text = ""
+    for place, tick in enumerate(ticks):
+        if tick % 10 == 1 and place >= len(text):
+            text = f"{text:{place}}{tick} "
+    return text
+
+
+def strips(account, names):
+    """A character a tick for each job, in blocks of a hundred."""
+    width = max(len(name) for name in names)
+    for start in range(0, len(account.ruler), STRIP):
+        yield f"{'':{width}}  {ruler(account.ruler[start:start + STRIP])}".rstrip()
+        for name, job in zip(names, account.jobs):
+            yield f"{name:{width}}  {''.join(job.strip[start:start + STRIP])}"
+
+
+def text(account, names):
+    yield heading(account)
+    yield ""
+    yield from columns([HEADS, *rows(account, names)], SIDES)
+    yield ""
+    yield explained(account)
+    yield from remarks(account, names)
+    yield ""
+    yield (f"A character for each tick: {RAN} ran half of it or more, {RAN_A_LITTLE} ran a little, {WAITED} waited, {SLEPT} slept, "
+           f"{RESUMED} a resume")
+    yield from strips(account, names)

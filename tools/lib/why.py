@@ -1,0 +1,67 @@
+"""Why this one? The decision after an event, as it was made."""
+from lib.listing import meaning
+from lib.scheduler import IDLE, MODES, NAMES, by_budget, by_fraction, by_priority, criteria, mode_of, settled, winner
+from lib.text import columns, count, percent
+
+HEADS = ("job", "competing", "top priority", "used", "budget", "remaining", "has budget", "fraction used")
+REASONS = {
+    IDLE: "no job has a ready thread that this core may run",
+    1: "a job with a share does not compete, so what it leaves is given to the others",
+    2: "all jobs with a share compete, and some have budget",
+    3: "all jobs with a share compete, and none has budget",
+}
+
+
+def row(standing, names):
+    fraction = f"{count(standing.used)} of {count(standing.budget)} ({percent(standing.used, standing.budget)})" if standing.budget else "no budget: worst"
+    return (names[standing.partition], "yes" if standing.competing else "no", str(standing.top) if standing.competing else "-", count(standing.used),
+            count(standing.budget), count(standing.remaining), "yes" if standing.has_budget else "no", fraction)
+
+
+def reason(best, other, order, names):
+    """Why the best is before another that competes."""
+    apart = settled(best, other, order)
+    first, second = names[best.partition], names[other.partition]
+    if apart is None:
+        return f"{first} before {second}: equal in all of that, and the lower number goes first"
+    if apart[0] is by_budget:
+        return f"{first} before {second}: {first} has budget, and {second} has not"
+    if apart[0] is by_priority:
+        return f"{first} before {second}: top priority {best.top} is higher than {other.top}"
+    if other.budget == 0:
+        return f"{first} before {second}: {second} has a budget of 0, which is worse than every other"
+    return (f"{first} before {second}: {count(best.used)} of {count(best.budget)} is a smaller fraction than "
+            f"{count(other.used)} of {count(other.budget)}")
+
+
+def choice(scheduler, best):
+    """Why this thread of the winner."""
+    chosen = scheduler.candidates(best)
+    rest = f"; it is the first of {', '.join(map(str, chosen))} in the line" if len(chosen) > 1 else ""
+    return f"thread {chosen[0]} runs: it has priority {best.top}, the highest of its job's ready threads that this core may run{rest}"
+
+
+def text(step, day, names):
+    """The decision that stands after a step. A refused event changes nothing, and so the decision before it stands."""
+    scheduler = step.scheduler
+    standings = scheduler.standings()
+    mode, policy = mode_of(standings), scheduler.sheet.policy
+    order = criteria(mode, policy)
+    yield f"event {step.number}: {step.line}  {meaning(step, day, names)}"
+    if not step.accepted:
+        yield "nothing is changed by it, and the decision before it stands:"
+    yield ""
+    yield from columns([HEADS, *(row(s, names) for s in standings)], "lrrrrrrl")
+    yield ""
+    yield f"mode {mode}, {MODES[mode]}: {REASONS[mode]}"
+    if mode == IDLE:
+        return
+    yield f"policy {policy}; compared by: {', then '.join(NAMES[c] for c in order)}; what is equal goes to the lowest number"
+    best = winner(standings, order)
+    others = [s for s in standings if s.competing and s is not best]
+    for other in others:
+        yield reason(best, other, order, names)
+    if not others:
+        yield f"{names[best.partition]} is the only one that competes"
+    yield choice(scheduler, best)
+    yield f"the line, in order of becoming ready: {', '.join(map(str, scheduler.line))}"
