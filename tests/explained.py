@@ -9,6 +9,8 @@ import sys
 import tempfile
 from pathlib import Path
 
+from expecting import Expecting
+
 ROOT = Path(__file__).resolve().parent.parent
 sys.path.insert(0, str(ROOT / "tools"))
 from lib import faults, programs, sheets
@@ -105,12 +107,7 @@ def tool(*words, data=b""):
 
 
 def main():
-    wrong = []
-
-    def expect(holds, said):
-        if not holds:
-            wrong.append(said)
-            print(f"explained: {said}")
+    expect = Expecting("explained")
 
     def judged(data):
         """The explanation of a sheet, held to the program's answer."""
@@ -173,8 +170,8 @@ def main():
     expect([tool().returncode, tool("check").returncode, tool("check", "/nowhere/at/all").returncode, tool("--help").returncode] == [2, 2, 2, 0],
            "bad usage has another status than 2, or help another than 0")
 
-    print(f"explained: {sum(c for _, c in makers) + len(GOOD) + len(KNOWN)} sheets have the program's number, {len(wrong)} things wrong")
-    sys.exit(bool(wrong))
+    print(f"explained: {sum(c for _, c in makers) + len(GOOD) + len(KNOWN)} sheets have the program's number, {expect.wrong} things wrong")
+    sys.exit(expect.wrong != 0)
 
 
 if __name__ == "__main__":

@@ -39,8 +39,9 @@ def remarks(account, names):
             least = f"; the least it got in {stretch} that it wanted was {count(job.least)}" if job.stretches else ""
             found.append(f"no promise: {name} has a bound of {count(bound)}, which is not above 0{least}")
         elif job.stretches:
-            found.append(f"promise kept: {name} got {count(job.least)} cycles or more in each of the {count(job.stretches)} stretches of {stretch} "
-                         f"that it wanted; {count(bound)} are promised")
+            stretches = "1 stretch" if job.stretches == 1 else f"{count(job.stretches)} stretches"
+            found.append(f"promise kept: {name} got {count(job.least)} cycles or more in {stretches} of {stretch} in which it always wanted the "
+                         f"processor; {count(bound)} are promised")
         else:
             found.append(f"promise not called on: {name} never wanted the processor for {stretch} in a row, all of them on time")
     if not any(account.starved(partition) for partition in range(len(account.jobs))):

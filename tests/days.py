@@ -1,0 +1,170 @@
+#!/usr/bin/env python3
+"""tools/day: its numbers are those of document 01's words, on the paper's run, on runs of another scheduler and on days made here; each event stands
+beside the desk's own line; refusals name their line; what starved is named, and what is not promised; and where the program says something
+else than the rules, the tool says so.
+"""
+import re
+import shutil
+import subprocess
+import sys
+import tempfile
+from pathlib import Path
+
+from expecting import Expecting
+from folders import ROOT, VECTORS, WORKED_SHEET, WORKED_TEXT, Judged, desk_lines, fill, random_day, sheet_of, show, table
+
+expect = Expecting("days")
+
+
+def has(done, *texts):
+    """The tool said each of these."""
+    for text in texts:
+        expect(text in done.stdout, f"{text!r} is not in what was said of {done.args[1]}")
+
+
+def worked(folder):
+    """Document 01's run. Document 02 has its charges: 2000, 2000, and 0 idle. The rest by hand: thread 1 runs up to 2000, then thread 0."""
+    fill(folder, WORKED_SHEET, WORKED_TEXT)
+    done = show(folder)
+    expect(done.returncode == 1, "a day with refusals has another status than 1")
+    has(done, "10 events, 2 of them refused; 4 ticks; 4,000 cycles, of which 0 idle (0.0 %)",
+        "REFUSED (13), line 9 of day.txt: thread 1 is ready already", "REFUSED (10), line 10 of day.txt: it would be 3,000 cycles since the last tick",
+        "partition 0  ww##\n", "partition 1  ##ww\n", "nobody starved")
+    rows = table(done.stdout)
+    expect(rows["partition 0"] == ["50 %", "2,000", "50.0 %", "2,000", "2,000", "1,250", "-"], f"the run of document 01 has the row {rows['partition 0']}")
+    expect(rows["partition 1"] == ["50 %", "2,000", "50.0 %", "2,000", "2,000", "1,250", "-"], f"the run of document 01 has the row {rows['partition 1']}")
+    # after the tick at 2000 partition 1 has used its 2000, so that a lower priority wins
+    at = show(folder, "--at", "6")
+    expect(at.returncode == 0 and re.search(r"partition 0 +yes +10 +0 +2,000 +2,000 +yes +0 of 2,000", at.stdout)
+           and re.search(r"partition 1 +yes +20 +2,000 +2,000 +0 +no +2,000 of 2,000", at.stdout), f"the decision after event 6 is told as {at.stdout}")
+    has(at, "mode 2, underload", "compared by: has budget, then top priority, then fraction used", "partition 0 before partition 1: partition 0 has budget",
+        "thread 0 runs")
+    expect(show(folder, "--at", "9").returncode == 1, "the decision after a refused event has another status than 1")
+
+
+def counted(folder, name, sheet, data):
+    """The numbers of a day are those of the paper's words."""
+    fill(folder, sheet, data=data)
+    lines = desk_lines(folder, data)
+    done = show(folder, "--brief")
+    if lines and lines[0][:2] in (b"01", b"02", b"03", b"04", b"05", b"06"):
+        expect(done.returncode == 1 and f"refused with {int(lines[0][:2])}" in done.stdout, f"{name}: the refused sheet is not told: {done}")
+        return 0
+    expect(done.returncode == any(line[:2] != b"00" for line in lines), f"{name}: status {done.returncode}, {done.stderr}")
+    judged, rows, seen = Judged(sheet, data, lines), table(done.stdout), 0
+    for p in range(len(judged.shares)):
+        found, bound = list(judged.stretches(p)), judged.bound(p)
+        seen += len(found)
+        row = [f"{judged.shares[p]} %", f"{judged.charged(p):,}", f"{100 * judged.charged(p) / max(judged.whole(), 1):.1f} %", f"{judged.waited(p):,}",
+               f"{judged.longest(p):,}", f"{bound:,}" if bound > 0 else "nothing", f"{min(found):,}" if found else "-"]
+        expect(rows[f"partition {p}"] == row, f"{name}: partition {p} has {rows[f'partition {p}']}, and by the paper's words {row}")
+        expect((f"STARVED: partition {p} " in done.stdout) == (judged.longest(p) > 2 * judged.window * judged.tick), f"{name}: is partition {p} starved?")
+        expect((f"no promise: partition {p} " in done.stdout) == (bound <= 0), f"{name}: is partition {p} promised something?")
+        if bound > 0 and found:
+            has(done, f"partition {p} got {min(found):,} cycles or more in {len(found):,} stretch")
+    expect(done.stdout.count("REFUSED (") == sum(line[:2] != b"00" for line in lines), f"{name}: not every refusal is told")
+    return seen
+
+
+def starving(folder):
+    """Partition 1 has no share and never wins beside partition 0. In W 2 and C 100 a stretch is 400 cycles: waiting them is not starving yet."""
+    sheet = sheet_of(2, 100, (100, 0))
+    text = "0 create 0 partition 0 priority 9 mask 1\n0 create 1 partition 1 priority 8 mask 1\n0 ready 0\n0 ready 1\n100 ticks 4 every 100\n"
+    done = show(fill(folder, sheet, text, names="0 the screen\n1 the radio # at the antenna\n"))
+    expect(done.returncode == 0, f"a day without refusals has the status {done.returncode}")
+    has(done, "nobody starved", "no promise: the radio has a bound of -75", "the radio   wwww\n")
+    done = show(fill(folder, text=text + "500 tick\n"))
+    has(done, "STARVED: the radio waited 500 cycles", "the least it got in 4 ticks that it wanted was 0", "the screen  #####\n")
+    expect("nobody starved" not in done.stdout, "somebody starved, and nobody did")
+
+
+def example():
+    """The story: every bound is above 0, and the day shows that the radio got what it is promised; each event beside the desk's own line."""
+    folder = ROOT / "examples/workshop"
+    done = show(folder)
+    rows = table(done.stdout)
+    expect([rows[n][5] for n in ("tracking", "logger", "radio", "screen")] == ["37,750", "17,750", "7,750", "27,750"], "the example's bounds are others")
+    expect(done.returncode == 1 and int(rows["radio"][6].replace(",", "")) >= 7750 and "promise kept: radio" in done.stdout, "the radio's promise is not shown")
+    data = subprocess.run([ROOT / "tools/events", "encode"], input=(folder / "day.txt").read_bytes(), stdout=subprocess.PIPE, check=True).stdout
+    lines = [line.decode().strip() for line in desk_lines(folder, data)]
+    shown = {}
+    for first, last, line in re.findall(r"^ +(\d+)(?:-(\d+))?  (\d\d \d \d\d \d\d\d)  ", done.stdout, re.M):
+        for number in range(int(first), int(last or first) + 1):
+            expect(number not in shown, f"event {number} of the example is shown twice")
+            shown[number] = line
+    expect(shown == dict(enumerate(lines, 1)), "the lines beside the example's events are not the desk's")
+    text = (folder / "day.txt").read_text().splitlines()
+    expect(all(line in done.stdout for line in text if line.startswith("#")), "a comment of the example is not shown")
+    refusals = re.findall(r"(\d+ \w+(?: \d+)?) +REFUSED \(\d+\), line (\d+) of day.txt", done.stdout)
+    expect(len(refusals) == 3 and all(text[int(place) - 1].split() == event.split() for event, place in refusals), f"refusals are elsewhere: {refusals}")
+    refused = show(ROOT / "examples/refused")
+    expect(refused.returncode == 1, "the second example is not refused")
+    has(refused, "shares.txt is refused with 1", "line 7, column 7: a comma in a share: half percents do not exist")
+
+
+def statuses(folder):
+    """What is bad usage, what is refused, and what is in the folder."""
+    good = fill(folder / "good", WORKED_SHEET, "0 tick # a remark\n")
+    expect(show(good).returncode == 0 and "# a remark" in show(good).stdout, "a good day has another status than 0, or loses its remark")
+    data = fill(folder / "data", WORKED_SHEET, data=bytes([1] + [0] * 11) + b"\x01\x02")
+    has(show(data), "REFUSED (14), record 2 of day.bin: the record is cut: 2 of 12 bytes")
+    both = fill(folder / "both", WORKED_SHEET, "0 tick\n", data=bytes([1] + [0] * 11))
+    expect(show(both).returncode == 0, "a day.bin made from day.txt is in the way")
+    fill(both, data=bytes([1] + [0] * 10 + [1]))
+    for status, done, said in [
+        (2, show(folder / "nowhere"), "is no folder"), (2, show(fill(folder / "empty")), "neither day.txt nor day.bin"), (2, show(both), "which one is the day"),
+        (2, show(good, "--at", "2"), "1 to 1"), (2, show(good, "--at", "x"), "invalid int"), (2, show(good, "--fly"), "unrecognized"),
+        (2, show(good, "--picture", folder / "no/such/folder.html"), "No such file"),
+        (1, show(fill(folder / "typo", WORKED_SHEET, "0 tick\n5 fly\n")), "day.txt, line 2: 'fly' is no event"),
+        (1, show(fill(folder / "names", WORKED_SHEET, "0 tick\n", names="0 a\n2 c\n")), "names.txt, line 2"),
+    ]:
+        expect(done.returncode == status and said in done.stderr, f"{done.args[1:]}: status {done.returncode}, {done.stderr!r}")
+    expect(show(fill(folder / "bare", text="0 tick\n")).returncode == 1, "a day without a sheet is not refused")
+    expect(show("--help").returncode == 0, "help has another status than 0")
+
+
+def disagreeing(folder):
+    """With a program in the desk's place that answers wrongly, the tool explains nothing and says where."""
+    shutil.copytree(ROOT / "tools/lib", folder / "tools/lib")
+    shutil.copy2(ROOT / "tools/day", folder / "tools/day")
+    day = fill(folder / "day", WORKED_SHEET, WORKED_TEXT)
+    right = [line.decode() for line in desk_lines(day, subprocess.run(
+        [ROOT / "tools/events", "encode"], input=WORKED_TEXT.encode(), stdout=subprocess.PIPE, check=True).stdout)]
+    for at, line, said in [(4, "00 2 00 000\n", "event 5 "), (8, "00 2 01 001\n", "event 9 "), (0, "13 0 00 000\n", "event 1 "), (3, "", "9 lines for 10"),
+                           (2, "hello world\n", "no line of the desk")]:
+        lines = right[:at] + [line] + right[at + 1:]
+        (folder / "bin").mkdir(exist_ok=True)
+        (folder / "answers").write_text("".join(lines))
+        (folder / "bin/desk").write_text(f"#!/bin/sh\ncat > /dev/null\ncat '{folder}/answers'\n")
+        (folder / "bin/desk").chmod(0o755)
+        done = show(day, tool=folder / "tools/day")
+        expect(done.returncode == 3 and said in done.stderr and "promise" not in done.stdout, f"line {at} as {line!r}: {done.returncode}, {done.stderr!r}")
+
+
+def main():
+    with tempfile.TemporaryDirectory() as name:
+        folder = Path(name)
+        worked(folder / "worked")
+        stretches = days = 0
+        for run in sorted(VECTORS.iterdir()):
+            sheet = (run / "shares.txt").read_bytes() if (run / "shares.txt").exists() else None
+            stretches += counted(folder / run.name, run.name, sheet, (run / "events.bin").read_bytes())
+            days += 1
+        tight = show(folder / "tight", "--brief").stdout
+        expect("partition 0 got 200 cycles or more in 1 stretch of 10 ticks in which it always wanted the processor; 200 are promised" in tight, "tight is not tight")
+        for seed in range(24):
+            window, shares = 2 + seed % 5, ((50, 30, 20), (90, 10), (34, 33, 33, 0))[seed % 3]
+            sheet = sheet_of(window, 400, shares, seed % 2)
+            stretches += counted(folder / f"day{seed}", f"day {seed}", sheet, random_day(seed, window, 400, len(shares), 6, 120))
+            days += 1
+        expect(stretches > 500, f"only {stretches} stretches were compared")
+        starving(folder / "starving")
+        example()
+        statuses(folder / "statuses")
+        disagreeing(folder / "disagreeing")
+    print(f"days: {days} days and {stretches} stretches counted as document 01 says, {expect.wrong} things wrong")
+    sys.exit(expect.wrong != 0)
+
+
+if __name__ == "__main__":
+    main()

@@ -1,0 +1,143 @@
+"""Days for the tests of tools/day: folders with a sheet and events, and what follows from events and lines by document 01's own words.
+
+`Judged` goes over a day once for each question, as the paper puts it, with none of the tool's code: it is slow and plain on purpose.
+"""
+import random
+import subprocess
+from pathlib import Path
+
+from records import record
+
+ROOT = Path(__file__).resolve().parent.parent
+TOOL = ROOT / "tools/day"
+DESK = ROOT / "target/bin/desk"
+VECTORS = ROOT / "tests/vectors"
+# document 01's run: W 4, C 1000, shares 50 and 50
+WORKED_SHEET = b"W 00 000004\nC 00 001000\nP 00 000000\nM 00 000000\nS 00 000050\nS 01 000050\n"
+WORKED_TEXT = """0 create 0 partition 0 priority 10 mask 1
+0 create 1 partition 1 priority 20 mask 1
+0 ready 0
+0 ready 1
+1000 tick
+2000 tick
+3000 tick
+4000 tick
+4500 ready 1
+7000 tick
+"""
+
+
+def sheet_of(window, tick, shares, policy=0, core=0):
+    head = "W 00 %06d\nC 00 %06d\nP 00 %06d\nM 00 %06d\n" % (window, tick, policy, core)
+    return (head + "".join("S %02d %06d\n" % s for s in enumerate(shares))).encode()
+
+
+def fill(folder, sheet=None, text=None, data=None, names=None):
+    """Writes a day's files into a folder, and answers it."""
+    folder = Path(folder)
+    folder.mkdir(parents=True, exist_ok=True)
+    for name, content in (("shares.txt", sheet), ("day.txt", text and text.encode()), ("day.bin", data), ("names.txt", names and names.encode())):
+        if content is not None:
+            (folder / name).write_bytes(content)
+    return folder
+
+
+def show(folder, *words, tool=TOOL):
+    return subprocess.run([tool, folder, *words], stdout=subprocess.PIPE, stderr=subprocess.PIPE, text=True, timeout=120)
+
+
+def table(text):
+    """The rows of the table in the tool's summary, by job, as lists of words; two blanks or more stand between columns."""
+    lines = text.splitlines()
+    first = next(i for i, line in enumerate(lines) if line.split()[:2] == ["job", "share"])
+    rows = {}
+    for line in lines[first + 1:lines.index("", first)]:
+        cells = [cell for cell in line.split("  ") if cell]
+        rows[cells[0].strip()] = [cell.strip() for cell in cells[1:]]
+    return rows
+
+
+def random_day(seed, window, tick, count, threads, length):
+    """Events of a day whose ticks are mostly on time, in which threads mostly stay ready, with a resume, late ticks and refusals here and there."""
+    draw = random.Random(seed)
+    events = [record(2, 0, t, t % count, draw.randrange(256), draw.choice((1, 1, 1, 3, 2))) for t in range(threads)]
+    events += [record(3, 0, t) for t in range(threads) if draw.random() < 0.9]
+    now = 0
+    for _ in range(length):
+        end = now + (tick if draw.random() < 0.99 else draw.choice((tick // 2, 2 * tick)))
+        for stamp in sorted(draw.randrange(now, end + 1) for _ in range(draw.choice((0, 0, 1, 2)))):
+            thread, kind = draw.randrange(threads), draw.choice((3, 3, 3, 4, 5, 6, 2))
+            if kind == 6 and draw.random() < 0.8:
+                kind = 3
+            partition = draw.randrange(count) if kind == 2 else 0
+            events.append(record(kind, stamp, thread, partition, draw.randrange(256) if kind in (2, 5) else 0, 1 if kind == 2 else 0))
+            now = stamp
+        now = end
+        events.append(record(1, now))
+        if draw.random() < 0.004:
+            now += draw.randrange(10**6)
+            events.append(record(7, now))
+    return b"".join(events)
+
+
+class Judged:
+    """What a day's events and lines say, accepted event by accepted event."""
+
+    def __init__(self, sheet, data, lines):
+        values = [int(sheet[i + 5:i + 11]) for i in range(0, len(sheet), 12)]
+        self.window, self.tick, _, self.core, *self.shares = values
+        self.kinds, self.elapsed, self.ran, self.waiting = [], [], [], []
+        known, old, running = {}, 0, None
+        for at, line in enumerate(lines):
+            event = data[12 * at:12 * at + 12]
+            if line[:2] != b"00":
+                continue
+            kind, thread, partition, _, mask = event[0], event[1], event[2], event[3], event[8]
+            stamp = int.from_bytes(event[4:8], "little")
+            self.kinds.append(kind)
+            self.elapsed.append(0 if kind == 7 else (stamp - old) % 2**32)
+            self.ran.append(running)            # whom the elapsed time of this event was charged to
+            known[thread] = {2: [partition, mask, False], 6: None}.get(kind, known.get(thread))
+            if kind in (3, 4):
+                known[thread][2] = kind == 3
+            # who wants the processor after this event
+            self.waiting.append({t[0] for t in known.values() if t and t[2] and t[1] >> self.core & 1})
+            old, running = stamp, None if line[3:4] == b"0" else int(line[5:7])
+
+    def charged(self, p):
+        return sum(e for e, r in zip(self.elapsed, self.ran) if r == p)
+
+    def whole(self):
+        return sum(self.elapsed)
+
+    def wanted(self, p):
+        """Whether p wanted the processor in the time before each event."""
+        return [p in w for w in [set()] + self.waiting[:-1]]
+
+    def waited(self, p):
+        return sum(e for e, r, w in zip(self.elapsed, self.ran, self.wanted(p)) if w and r != p)
+
+    def longest(self, p):
+        """The longest time that it wanted the processor and got nothing; a resume starts over."""
+        best = wait = 0
+        for kind, elapsed, ran, wanted in zip(self.kinds, self.elapsed, self.ran, self.wanted(p)):
+            wait = 0 if kind == 7 or not wanted or (ran == p and elapsed) else wait + elapsed
+            best = max(best, wait)
+        return best
+
+    def bound(self, p):
+        return self.shares[p] * self.window * self.tick // 100 - (len(self.shares) - 1) * 3 * self.tick // 4
+
+    def stretches(self, p):
+        """What p was charged in each stretch in which it always wanted the processor."""
+        ticks = [i for i, kind in enumerate(self.kinds) if kind == 1]
+        for opening, closing in zip(ticks, ticks[2 * self.window:]):
+            within = [i for i in ticks if opening <= i <= closing]
+            on_time = all(sum(self.elapsed[a + 1:b + 1]) == self.tick for a, b in zip(within, within[1:]))
+            if on_time and 7 not in self.kinds[opening:closing] and all(p in w for w in self.waiting[opening:closing]):
+                yield sum(e for e, r in zip(self.elapsed[opening + 1:closing + 1], self.ran[opening + 1:closing + 1]) if r == p)
+
+
+def desk_lines(folder, data):
+    out = subprocess.run([DESK], cwd=folder, input=data, stdout=subprocess.PIPE, check=True, timeout=60).stdout
+    return [out[i:i + 12] for i in range(0, len(out), 12)]

@@ -1,0 +1,154 @@
+#!/usr/bin/env python3
+"""The page that tools/day writes: its numbers are the summary's, its lanes are the day's as worked out by hand or by document 01's words, an overdrawn
+job is seen as such, refusals are marked with their words, nothing is fetched from elsewhere, and a day of 100,000 events stays small.
+"""
+import re
+import shutil
+import sys
+import tempfile
+from html import unescape
+from html.parser import HTMLParser
+from pathlib import Path
+
+from expecting import Expecting
+from folders import ROOT, WORKED_SHEET, WORKED_TEXT, Judged, desk_lines, fill, random_day, sheet_of, show, table
+
+WIDTH = 16000
+expect = Expecting("pictures")
+
+
+class Page(HTMLParser):
+    """The page's parts: the table of numbers by job, each job's rows as they follow each other, the marks, and everything that could be fetched."""
+
+    def __init__(self, text):
+        super().__init__(convert_charrefs=True)
+        self.jobs, self.marks, self.links, self.tags, self.text = {}, [], [], set(), ""
+        self.cells, self.tables, self.row = [], {}, None
+        self.feed(text)
+        self.close()
+
+    def handle_starttag(self, tag, given):
+        given = dict(given)
+        self.tags.add(tag)
+        self.links += [given[name] for name in ("href", "src", "xlink:href") if name in given]
+        kind = given.get("class", "")
+        if tag == "h2":
+            self.text = ""
+        elif tag == "a" and kind == "mark":
+            self.marks.append(given["title"])
+        elif tag == "table":
+            self.cells = self.tables.setdefault(kind, [])
+        elif tag == "tr":
+            self.cells.append([])
+        elif tag in ("td", "th"):
+            self.text = ""
+        elif tag == "div" and kind.startswith("row "):
+            self.row = {"kind": kind.split()[1], "name": "", "strokes": {}}
+            if self.jobs:
+                list(self.jobs.values())[-1].append(self.row)
+        elif tag == "div" and kind == "name":
+            self.text = ""
+        elif tag == "path" and self.row and "h" in given.get("d", "") and kind not in ("budget", "grid"):
+            self.row["strokes"][kind] = [(int(x), int(x) + int(w)) for x, w in re.findall(r"M(\d+) 5h(\d+)", given["d"])]
+
+    def handle_data(self, data):
+        self.text += data
+
+    def handle_endtag(self, tag):
+        if tag in ("td", "th"):
+            self.cells[-1].append(self.text)
+        elif tag == "h2":
+            self.jobs[re.sub(r"share \d+ %.*", "", self.text)] = []
+        elif tag == "div" and self.row and not self.row["name"]:
+            self.row["name"] = self.text
+
+
+def drawn(folder, *words):
+    """The page of a day, and what the terminal said."""
+    out = Path(folder) / "page.html"
+    done = show(folder, "--brief", "--picture", out, *words)
+    expect(done.returncode in (0, 1), f"{folder}: status {done.returncode}, {done.stderr}")
+    text = out.read_text()
+    page = Page(text)
+    expect(all(link.startswith("#") for link in page.links) and not page.tags & {"script", "link", "img", "iframe"} and "url(#" in text
+           and not re.search(r"url\((?!#)|@import|https?:", text), f"{folder}: something is fetched from elsewhere")
+    rows = table(done.stdout)
+    expect({row[0]: row[1:] for row in page.tables["numbers"][1:]} == rows, f"{folder}: the page's numbers are not the summary's")
+    expect(all(line in unescape(text) for line in done.stdout.splitlines() if line.startswith(("promise", "no promise", "nobody", "STARVED"))),
+           f"{folder}: the page does not say what the summary says")
+    return page, text, done
+
+
+def rows_of(page, job, kind):
+    return [row for row in page.jobs[job] if row["kind"] == kind]
+
+
+def worked(folder):
+    """Document 01's run over 4000 cycles: thread 1 runs in the first half of the day and waits in the second, thread 0 the other way round."""
+    page, text, _ = drawn(fill(folder, WORKED_SHEET, WORKED_TEXT))
+    first, second = [(0, WIDTH // 2)], [(WIDTH // 2, WIDTH)]
+    for job, thread, running, ready in (("partition 0", "thread 0", second, first), ("partition 1", "thread 1", first, second)):
+        for row in (rows_of(page, job, "job")[0], rows_of(page, job, "thread")[0]):
+            expect(row["strokes"] == {"running": running, "ready": ready}, f"document 01's run: {job} is drawn as {row['strokes']}")
+        expect(rows_of(page, job, "thread")[0]["name"] == thread, f"{job} has the lane {rows_of(page, job, 'thread')[0]['name']}")
+        expect(rows_of(page, job, "used")[0]["name"] == "used, at most 2,000budget 2,000 (dashed)", f"{job}: {rows_of(page, job, 'used')[0]['name']}")
+    words = "\n".join(page.marks)
+    expect("thread 1 is ready already" in words and "3,000 cycles since the last tick" in words and "line 9 of day.txt" in words, f"the marks say {words!r}")
+    expect([row[:4] for row in page.tables["refusals"][1:]] == [["9", "line 9 of day.txt", "4500 ready 1", "13"], ["10", "line 10 of day.txt", "7000 tick", "10"]],
+           f"the refusals are {page.tables['refusals']}")
+
+
+def overdrawn(folder):
+    """Alone for two ticks in a window of two: 2000 used, of a budget of 1000. Its thread sleeps half a tick, another may run on core 1 alone."""
+    text = "0 create 0 partition 0 priority 1 mask 1\n0 create 3 partition 0 priority 2 mask 2\n0 ready 0\n1000 ticks 2 every 1000\n2500 block 0\n3000 ready 3\n4000 tick\n"
+    page, text, _ = drawn(fill(folder, sheet_of(2, 1000, (50, 50)), text, names="0 <hog> & co\n"))
+    used = rows_of(page, "<hog> & co", "used")[0]["name"]
+    expect("at most 2,000" in used and "overdrawn by up to 1,000" in used, f"an overdrawn job is told as {used!r}")
+    expect("overdrawn" not in rows_of(page, "partition 1", "used")[0]["name"], "a job that never ran is overdrawn")
+    lanes = rows_of(page, "<hog> & co", "thread")
+    expect(lanes[0]["strokes"] == {"running": [(0, 10000)], "blocked": [(10000, 16000)]}, f"thread 0 is drawn as {lanes[0]['strokes']}")
+    expect(lanes[1]["strokes"] == {"blocked": [(0, 12000)], "elsewhere": [(12000, 16000)]}, f"thread 3 is drawn as {lanes[1]['strokes']}")
+    # the budget is at 1000 of the drawing's 2160, and what is above it has the other colour
+    expect(re.search(r'<clipPath id="over0"><rect width="16000" height="(53[67])"', text) is not None, "the budget is drawn elsewhere")
+
+
+def measured(folder, seed):
+    """On a day made here the lanes are as long as document 01's words say the job ran and waited, but for what is less than a pixel."""
+    sheet, data = sheet_of(5, 400, (50, 30, 20)), random_day(seed, 5, 400, 3, 6, 60)
+    page, _, _ = drawn(fill(folder, sheet, data=data))
+    judged = Judged(sheet, data, desk_lines(folder, data))
+    for p in range(3):
+        strokes = rows_of(page, f"partition {p}", "job")[0]["strokes"]
+        for kind, cycles in (("running", judged.charged(p)), ("ready", judged.waited(p))):
+            length = sum(end - start for start, end in strokes.get(kind, []))
+            expect(abs(length - cycles * WIDTH / judged.whole()) <= 6 * max(len(strokes.get(kind, [])), 1), f"day {seed}: partition {p}, {kind} is {length} long")
+
+
+def large(folder):
+    """100,000 events and more: joined, the page stays small and every job has its lanes."""
+    sheet, data = sheet_of(100, 1000, (50, 30, 20)), random_day(1, 100, 1000, 3, 9, 58000)
+    expect(len(data) > 12 * 100_000, f"only {len(data) // 12} events")
+    page, text, _ = drawn(fill(folder, sheet, data=data))
+    expect(len(text) < 1_500_000, f"the page of a long day has {len(text)} bytes")
+    for p in range(3):
+        for row in rows_of(page, f"partition {p}", "job") + rows_of(page, f"partition {p}", "thread"):
+            expect(0 < sum(len(strokes) for strokes in row["strokes"].values()) <= 2 * WIDTH / 10, f"partition {p}, {row['name']}: too many pieces, or none")
+
+
+def main():
+    with tempfile.TemporaryDirectory() as name:
+        folder = Path(name)
+        worked(folder / "worked")
+        overdrawn(folder / "overdrawn")
+        for seed in range(6):
+            measured(folder / f"day{seed}", seed)
+        large(folder / "large")
+        shutil.copytree(ROOT / "examples/workshop", folder / "workshop")
+        page, _, _ = drawn(folder / "workshop")
+        expect([row["name"] for row in rows_of(page, "screen", "thread")] == ["thread 3", "thread 4"], "the screen's threads have other lanes")
+    print(f"pictures: pages of 10 days, one of them of 100,000 events, {expect.wrong} things wrong")
+    sys.exit(expect.wrong != 0)
+
+
+if __name__ == "__main__":
+    main()
