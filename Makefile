@@ -1,8 +1,12 @@
-# `make run` does the main job on the example day, `make test` runs every check, `make bench` measures (it is no test).
-.PHONY: run test bench
+# `make run` does the main job on the example day, `make dist` packs the programs and tools for a laptop, `make test` runs every check, `make bench`
+# measures (it is no test).
+.PHONY: run dist test bench
 
 run:
 	@tools/run
+
+dist:
+	@tools/dist
 
 test:
 	@tools/test
