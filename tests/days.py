@@ -61,7 +61,7 @@ def counted(folder, name, sheet, data):
         expect((f"STARVED: partition {p} " in done.stdout) == (judged.longest(p) > 2 * judged.window * judged.tick), f"{name}: is partition {p} starved?")
         expect((f"no promise: partition {p} " in done.stdout) == (bound <= 0), f"{name}: is partition {p} promised something?")
         if bound > 0 and found:
-            has(done, f"partition {p} got {min(found):,} cycles or more in {len(found):,} stretch")
+            has(done, f"partition {p} is promised {bound:,} cycles, and got {min(found):,} or more in {len(found):,} stretch")
     expect(done.stdout.count("REFUSED (") == sum(line[:2] != b"00" for line in lines), f"{name}: not every refusal is told")
     return seen
 
@@ -151,7 +151,7 @@ def main():
             stretches += counted(folder / run.name, run.name, sheet, (run / "events.bin").read_bytes())
             days += 1
         tight = show(folder / "tight", "--brief").stdout
-        expect("partition 0 got 200 cycles or more in 1 stretch of 10 ticks in which it always wanted the processor; 200 are promised" in tight, "tight is not tight")
+        expect("partition 0 is promised 200 cycles, and got 200 or more in 1 stretch of 10 ticks" in tight, "tight is not tight")
         for seed in range(24):
             window, shares = 2 + seed % 5, ((50, 30, 20), (90, 10), (34, 33, 33, 0))[seed % 3]
             sheet = sheet_of(window, 400, shares, seed % 2)

@@ -103,7 +103,7 @@ def overdrawn(folder):
     text = "0 create 0 partition 0 priority 1 mask 1\n0 create 3 partition 0 priority 2 mask 2\n0 ready 0\n1000 ticks 2 every 1000\n2500 block 0\n3000 ready 3\n4000 tick\n"
     page, text, _ = drawn(fill(folder, sheet_of(2, 1000, (50, 50)), text, names="0 <hog> & co\n"))
     used = rows_of(page, "<hog> & co", "used")[0]["name"]
-    expect("at most 2,000" in used and "overdrawn by up to 1,000" in used, f"an overdrawn job is told as {used!r}")
+    expect("at most 2,000" in used and "overdrawn by 1,000" in used, f"an overdrawn job is told as {used!r}")
     expect("overdrawn" not in rows_of(page, "partition 1", "used")[0]["name"], "a job that never ran is overdrawn")
     lanes = rows_of(page, "<hog> & co", "thread")
     expect(lanes[0]["strokes"] == {"running": [(0, 10000)], "blocked": [(10000, 16000)]}, f"thread 0 is drawn as {lanes[0]['strokes']}")

@@ -70,7 +70,7 @@ def form_faults(data):
         lines.pop()
     faults = [fault for place, line in enumerate(lines[:MOST], 1) for fault in line_faults(place, line)]
     if not ended:
-        faults.append(Fault(len(lines), len(lines[-1]) + 1, "the line feed at the end of the last line is missing: press Enter there and save again"))
+        faults.append(Fault(len(lines), len(lines[-1]) + 1, "the line feed at the end of the last line is missing: press Enter there, and save"))
     if len(lines) < FEWEST:
         faults.append(Fault(len(lines), 1, f"the sheet ends here, after {len(lines)} of at least {FEWEST} lines: {ORDER}"))
     if len(lines) > MOST:

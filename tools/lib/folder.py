@@ -60,6 +60,6 @@ def read_names(folder, count=PARTITIONS):
             continue
         number = int(words[0]) if words[0].isascii() and words[0].isdigit() else count
         if number >= count or len(words) < 2 or number in names:
-            raise Mistake(f"names.txt, line {place}: a partition of the sheet that has no name yet, and its name, are wanted, and not {line.strip()!r}")
+            raise Mistake(f"names.txt, line {place}: the number of a partition of the sheet, once, and its name are wanted, and not {line.strip()!r}")
         names[number] = " ".join(words[1:])
     return [names.get(partition, f"partition {partition}") for partition in range(count)]

@@ -124,7 +124,7 @@ def used_row(partition, lanes, sheet, scale):
               f'<clipPath id="over{partition}"><rect width="{WIDTH}" height="{y(budget)}"/></clipPath></defs>'
               f'<use class="level" href="#used{partition}"/><use class="over" href="#used{partition}" clip-path="url(#over{partition})"/>'
               f'<path class="budget" d="M0 {y(budget)}h{WIDTH}"/>')
-    over = f'<br><span class="overdrawn">overdrawn by up to {count(most - budget)}</span>' if most > budget else ""
+    over = f'<br><span class="overdrawn">overdrawn by {count(most - budget)}</span>' if most > budget else ""
     return row("used", f"used, at most {count(most)}<br>budget {count(budget)} (dashed){over}", drawing(inside, HEIGHT))
 
 
@@ -154,7 +154,8 @@ def ticks_row(lanes, scale):
 
 
 def refusal_words(step, day):
-    return f"event {count(step.number)} ({records.decode_record(step.data)}), {day.source(step.number - 1)}: refused with {step.line.refusal}, {step.words}"
+    event, place = records.decode_record(step.data), day.source(step.number - 1)
+    return f"event {count(step.number)} ({event}), {place}: refused with {step.line.refusal}, {step.words}"
 
 
 def marks_row(lanes, scale, day):
@@ -175,8 +176,8 @@ def marks_row(lanes, scale, day):
 def refusals_table(lanes, day):
     if not lanes.refusals:
         return ""
-    lines = "".join(f"<tr><td>{count(step.number)}</td><td>{escape(day.source(step.number - 1))}</td><td>{escape(records.decode_record(step.data))}</td>"
-                    f"<td>{step.line.refusal}</td><td>{escape(step.words)}</td></tr>" for _, step in lanes.refusals[:MOST_LISTED])
+    lines = table_rows((count(step.number), day.source(step.number - 1), records.decode_record(step.data), str(step.line.refusal), step.words)
+                       for _, step in lanes.refusals[:MOST_LISTED])
     left = len(lanes.refusals) - MOST_LISTED
     more = f'<p class="note">And {count(left)} more: tools/day lists them all.</p>' if left > 0 else ""
     return (f'<h2 id="refused">Refused</h2><p class="note">A refused event changes nothing.</p><div class="scroll"><table class="refusals">'
@@ -199,17 +200,26 @@ def job_rows(partition, lanes, account, names, scale):
 
 def numbers_table(account, names):
     head = "".join(f"<th>{word}</th>" for word in summary.HEADS)
-    lines = "".join("<tr>" + "".join(f"<td>{escape(word)}</td>" for word in words) + "</tr>" for words in summary.rows(account, names))
+    lines = table_rows(summary.rows(account, names))
     return f'<div class="scroll"><table class="numbers"><tr>{head}</tr>{lines}</table></div><p class="note">{escape(summary.explained(account))}</p>'
+
+
+def table_rows(rows):
+    return "".join("<tr>" + "".join(f"<td>{escape(word)}</td>" for word in words) + "</tr>" for words in rows)
+
+
+def remarks_list(account, names):
+    items = [(" class=starved" if remark.startswith(summary.STARVED) else "", escape(remark)) for remark in summary.remarks(account, names)]
+    return '<ul class="remarks">' + "".join(f"<li{kind}>{remark}</li>" for kind, remark in items) + "</ul>"
 
 
 def page(title, account, lanes, day, names):
     """The whole page of a day's account and lanes."""
     scale = Scale(lanes.end)
-    remarks = "".join(f'<li{" class=starved" if remark.startswith(summary.STARVED) else ""}>{escape(remark)}</li>' for remark in summary.remarks(account, names))
     legend = "".join(f'<span><i class="{kind}"></i>{words}</span>' for kind, words in LEGEND)
     parts = [
-        f"<h1>{escape(title)}</h1><p>{escape(summary.heading(account))}</p><ul class=\"remarks\">{remarks}</ul>",
+        f"<h1>{escape(title)}</h1><p>{escape(summary.heading(account))}</p>",
+        remarks_list(account, names),
         f'<div class="legend">{legend}</div>',
         ticks_row(lanes, scale),
         marks_row(lanes, scale, day),
@@ -218,5 +228,6 @@ def page(title, account, lanes, day, names):
         numbers_table(account, names),
         refusals_table(lanes, day),
     ]
+    body = "\n".join(part for part in parts if part)
     return ('<!doctype html>\n<html lang="en"><head><meta charset="utf-8"><meta name="viewport" content="width=device-width, initial-scale=1">'
-            f"<title>{escape(title)}</title>\n<style>\n{STYLE.read_text()}</style></head>\n<body>\n" + "\n".join(part for part in parts if part) + "\n</body></html>\n")
+            f"<title>{escape(title)}</title>\n<style>\n{STYLE.read_text()}</style></head>\n<body>\n{body}\n</body></html>\n")

@@ -22,8 +22,8 @@ def rows(account, names):
 
 
 def explained(account):
-    return (f"All but shares are cycles. Promised, and the least it got: in a stretch of {account.sheet.stretch()} ticks that come on time and in which the "
-            "job always wants the processor.")
+    return (f"All but shares are cycles. Promised, and the least it got: in a stretch of {account.sheet.stretch()} ticks that come on time and in "
+            "which the job always wants the processor.")
 
 
 def remarks(account, names):
@@ -40,8 +40,8 @@ def remarks(account, names):
             found.append(f"no promise: {name} has a bound of {count(bound)}, which is not above 0{least}")
         elif job.stretches:
             stretches = "1 stretch" if job.stretches == 1 else f"{count(job.stretches)} stretches"
-            found.append(f"promise kept: {name} got {count(job.least)} cycles or more in {stretches} of {stretch} in which it always wanted the "
-                         f"processor; {count(bound)} are promised")
+            found.append(f"promise kept: {name} is promised {count(bound)} cycles, and got {count(job.least)} or more in {stretches} of {stretch} "
+                         "in which it always wanted the processor")
         else:
             found.append(f"promise not called on: {name} never wanted the processor for {stretch} in a row, all of them on time")
     if not any(account.starved(partition) for partition in range(len(account.jobs))):

@@ -1,19 +1,21 @@
 """Why this one? The decision after an event, as it was made."""
 from lib.listing import meaning
-from lib.scheduler import IDLE, MODES, NAMES, by_budget, by_fraction, by_priority, criteria, mode_of, settled, winner
+from lib.scheduler import AT_LIMIT, FREE_TIME, IDLE, MODES, NAMES, UNDERLOAD, by_budget, by_priority, criteria, mode_of, settled, winner
 from lib.text import columns, count, percent
 
 HEADS = ("job", "competing", "top priority", "used", "budget", "remaining", "has budget", "fraction used")
 REASONS = {
     IDLE: "no job has a ready thread that this core may run",
-    1: "a job with a share does not compete, so what it leaves is given to the others",
-    2: "all jobs with a share compete, and some have budget",
-    3: "all jobs with a share compete, and none has budget",
+    FREE_TIME: "a job with a share does not compete, so what it leaves is given to the others",
+    UNDERLOAD: "all jobs with a share compete, and some have budget",
+    AT_LIMIT: "all jobs with a share compete, and none has budget",
 }
 
 
 def row(standing, names):
-    fraction = f"{count(standing.used)} of {count(standing.budget)} ({percent(standing.used, standing.budget)})" if standing.budget else "no budget: worst"
+    fraction = f"{count(standing.used)} of {count(standing.budget)} ({percent(standing.used, standing.budget)})"
+    if standing.budget == 0:
+        fraction = "worse than every other: a budget of 0"
     return (names[standing.partition], "yes" if standing.competing else "no", str(standing.top) if standing.competing else "-", count(standing.used),
             count(standing.budget), count(standing.remaining), "yes" if standing.has_budget else "no", fraction)
 
