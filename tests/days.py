@@ -13,6 +13,10 @@ from pathlib import Path
 from expecting import Expecting
 from folders import ROOT, VECTORS, WORKED_SHEET, WORKED_TEXT, Judged, desk_lines, fill, random_day, sheet_of, show, table
 
+sys.path.insert(0, str(ROOT / "tools"))
+from lib import programs, records, replay, sheets, why
+from lib.folder import Day
+
 expect = Expecting("days")
 
 
@@ -27,18 +31,16 @@ def worked(folder):
     fill(folder, WORKED_SHEET, WORKED_TEXT)
     done = show(folder)
     expect(done.returncode == 1, "a day with refusals has another status than 1")
-    has(done, "10 events, 2 of them refused; 4 ticks; 4,000 cycles, of which 0 idle (0.0 %)",
-        "REFUSED (13), line 9 of day.txt: thread 1 is ready already", "REFUSED (10), line 10 of day.txt: it would be 3,000 cycles since the last tick",
-        "partition 0  ww##\n", "partition 1  ##ww\n", "nobody starved")
-    rows = table(done.stdout)
-    expect(rows["partition 0"] == ["50 %", "2,000", "50.0 %", "2,000", "2,000", "1,250", "-"], f"the run of document 01 has the row {rows['partition 0']}")
-    expect(rows["partition 1"] == ["50 %", "2,000", "50.0 %", "2,000", "2,000", "1,250", "-"], f"the run of document 01 has the row {rows['partition 1']}")
+    has(done, "10 events, 2 of them refused; 4 ticks; 4,000 cycles, of which 0 idle (0.0 %)", "REFUSED (13), line 9 of day.txt: thread 1 is ready already",
+        "REFUSED (10), line 10 of day.txt: it would be 3,000 cycles since the last tick", "partition 0  ww##\n", "partition 1  ##ww\n", "nobody starved")
+    row = ["50 %", "2,000", "50.0 %", "2,000", "2,000", "1,250", "-"]
+    expect(table(done.stdout) == {"partition 0": row, "partition 1": row}, f"the run of document 01 has the rows {table(done.stdout)}")
     # after the tick at 2000 partition 1 has used its 2000, so that a lower priority wins
     at = show(folder, "--at", "6")
     expect(at.returncode == 0 and re.search(r"partition 0 +yes +10 +0 +2,000 +2,000 +yes +0 of 2,000", at.stdout)
-           and re.search(r"partition 1 +yes +20 +2,000 +2,000 +0 +no +2,000 of 2,000", at.stdout), f"the decision after event 6 is told as {at.stdout}")
-    has(at, "mode 2, underload", "compared by: has budget, then top priority, then fraction used", "partition 0 before partition 1: partition 0 has budget",
-        "thread 0 runs")
+           and re.search(r"partition 1 +yes +20 +2,000 +2,000 +0 +no +2,000 of 2,000", at.stdout), f"the decision after event 6 is: {at.stdout}")
+    has(at, "mode 2, underload", "compared by: has budget, then top priority, then fraction used", "thread 0 runs",
+        "partition 0 before partition 1: partition 0 has budget, and partition 1 has not")
     expect(show(folder, "--at", "9").returncode == 1, "the decision after a refused event has another status than 1")
 
 
@@ -55,13 +57,15 @@ def counted(folder, name, sheet, data):
     for p in range(len(judged.shares)):
         found, bound = list(judged.stretches(p)), judged.bound(p)
         seen += len(found)
-        row = [f"{judged.shares[p]} %", f"{judged.charged(p):,}", f"{100 * judged.charged(p) / max(judged.whole(), 1):.1f} %", f"{judged.waited(p):,}",
-               f"{judged.longest(p):,}", f"{bound:,}" if bound > 0 else "nothing", f"{min(found):,}" if found else "-"]
+        part = f"{100 * judged.charged(p) / max(judged.whole(), 1):.1f} %"
+        row = [f"{judged.shares[p]} %", f"{judged.charged(p):,}", part, f"{judged.waited(p):,}", f"{judged.longest(p):,}",
+               f"{bound:,}" if bound > 0 else "nothing", f"{min(found):,}" if found else "-"]
         expect(rows[f"partition {p}"] == row, f"{name}: partition {p} has {rows[f'partition {p}']}, and by the paper's words {row}")
-        expect((f"STARVED: partition {p} " in done.stdout) == (judged.longest(p) > 2 * judged.window * judged.tick), f"{name}: is partition {p} starved?")
+        starved = judged.longest(p) > 2 * judged.window * judged.tick
+        expect((f"STARVED: partition {p} " in done.stdout) == starved, f"{name}: is partition {p} starved?")
         expect((f"no promise: partition {p} " in done.stdout) == (bound <= 0), f"{name}: is partition {p} promised something?")
         if bound > 0 and found:
-            has(done, f"partition {p} is promised {bound:,} cycles, and got {min(found):,} or more in {len(found):,} stretch")
+            has(done, f"partition {p} got {min(found):,} cycles or more where {bound:,} are promised ({len(found):,} stretch")
     expect(done.stdout.count("REFUSED (") == sum(line[:2] != b"00" for line in lines), f"{name}: not every refusal is told")
     return seen
 
@@ -83,8 +87,11 @@ def example():
     folder = ROOT / "examples/workshop"
     done = show(folder)
     rows = table(done.stdout)
-    expect([rows[n][5] for n in ("tracking", "logger", "radio", "screen")] == ["37,750", "17,750", "7,750", "27,750"], "the example's bounds are others")
-    expect(done.returncode == 1 and int(rows["radio"][6].replace(",", "")) >= 7750 and "promise kept: radio" in done.stdout, "the radio's promise is not shown")
+    bounds = [rows[name][5] for name in ("tracking", "logger", "radio", "screen")]
+    expect(bounds == ["37,750", "17,750", "7,750", "27,750"], f"the example's bounds are {bounds}")
+    expect(done.returncode == 1 and int(rows["radio"][6].replace(",", "")) >= 7750 and "promise kept: radio" in done.stdout, "no promise to the radio")
+    # the radio sleeps for 30 ticks, runs for 700 cycles of the next and 200 of the one after, sleeps for 18 and waits
+    has(done, "radio     " + 30 * "." + "#+" + 18 * "." + "w")
     data = subprocess.run([ROOT / "tools/events", "encode"], input=(folder / "day.txt").read_bytes(), stdout=subprocess.PIPE, check=True).stdout
     lines = [line.decode().strip() for line in desk_lines(folder, data)]
     shown = {}
@@ -96,7 +103,7 @@ def example():
     text = (folder / "day.txt").read_text().splitlines()
     expect(all(line in done.stdout for line in text if line.startswith("#")), "a comment of the example is not shown")
     refusals = re.findall(r"(\d+ \w+(?: \d+)?) +REFUSED \(\d+\), line (\d+) of day.txt", done.stdout)
-    expect(len(refusals) == 3 and all(text[int(place) - 1].split() == event.split() for event, place in refusals), f"refusals are elsewhere: {refusals}")
+    expect(len(refusals) == 3 and all(text[int(place) - 1].split() == event.split() for event, place in refusals), f"refusals: {refusals}")
     refused = show(ROOT / "examples/refused")
     expect(refused.returncode == 1, "the second example is not refused")
     has(refused, "shares.txt is refused with 1", "line 7, column 7: a comma in a share: half percents do not exist")
@@ -112,8 +119,8 @@ def statuses(folder):
     expect(show(both).returncode == 0, "a day.bin made from day.txt is in the way")
     fill(both, data=bytes([1] + [0] * 10 + [1]))
     for status, done, said in [
-        (2, show(folder / "nowhere"), "is no folder"), (2, show(fill(folder / "empty")), "neither day.txt nor day.bin"), (2, show(both), "which one is the day"),
-        (2, show(good, "--at", "2"), "1 to 1"), (2, show(good, "--at", "x"), "invalid int"), (2, show(good, "--fly"), "unrecognized"),
+        (2, show(folder / "nowhere"), "is no folder"), (2, show(fill(folder / "empty")), "neither day.txt nor day.bin"),
+        (2, show(both), "which one is the day"), (2, show(good, "--at", "2"), "1 to 1"), (2, show(good, "--at", "x"), "invalid int"), (2, show(good, "--fly"), "unrecognized"),
         (2, show(good, "--picture", folder / "no/such/folder.html"), "No such file"),
         (1, show(fill(folder / "typo", WORKED_SHEET, "0 tick\n5 fly\n")), "day.txt, line 2: 'fly' is no event"),
         (1, show(fill(folder / "names", WORKED_SHEET, "0 tick\n", names="0 a\n2 c\n")), "names.txt, line 2"),
@@ -123,6 +130,25 @@ def statuses(folder):
     expect(show("--help").returncode == 0, "help has another status than 0")
 
 
+def decisions(run):
+    """Every decision of a run is explained: the mode and the thread are the desk's, and each other competing job is told why it came later."""
+    data, told = (run / "events.bin").read_bytes(), 0
+    lines = [programs.read_line(part) for part in records.split((run / "expected.txt").read_bytes())]
+    if programs.sheet_refused(lines):
+        return 0
+    sheet = sheets.read((run / "shares.txt").read_bytes())
+    names = [f"job {p}" for p in range(len(sheet.shares))]
+    for step in replay.replay(sheet, records.split(data), lines):
+        text = list(why.text(step, Day(records.split(data), [], []), names))
+        if step.accepted and step.line.mode:
+            told += 1
+            later = [line for line in text if line.startswith(f"job {step.line.partition} before ")]
+            compete = sum(re.match(r"job \d+ +yes ", line) is not None for line in text)
+            expect(any(line.startswith(f"mode {step.line.mode}, ") for line in text) and any(f"thread {step.line.thread} runs" in line for line in text)
+                   and len(later) == compete - 1, f"{run.name}: the decision after event {step.number} is told as {text}")
+    return told
+
+
 def disagreeing(folder):
     """With a program in the desk's place that answers wrongly, the tool explains nothing and says where."""
     shutil.copytree(ROOT / "tools/lib", folder / "tools/lib")
@@ -130,28 +156,29 @@ def disagreeing(folder):
     day = fill(folder / "day", WORKED_SHEET, WORKED_TEXT)
     right = [line.decode() for line in desk_lines(day, subprocess.run(
         [ROOT / "tools/events", "encode"], input=WORKED_TEXT.encode(), stdout=subprocess.PIPE, check=True).stdout)]
-    for at, line, said in [(4, "00 2 00 000\n", "event 5 "), (8, "00 2 01 001\n", "event 9 "), (0, "13 0 00 000\n", "event 1 "), (3, "", "9 lines for 10"),
-                           (2, "hello world\n", "no line of the desk")]:
+    for at, line, said in [(4, "00 2 00 000\n", "event 5 "), (8, "00 2 01 001\n", "event 9 "), (0, "13 0 00 000\n", "event 1 "),
+                           (3, "", "9 lines for 10"), (2, "hello world\n", "no line of the desk")]:
         lines = right[:at] + [line] + right[at + 1:]
         (folder / "bin").mkdir(exist_ok=True)
         (folder / "answers").write_text("".join(lines))
         (folder / "bin/desk").write_text(f"#!/bin/sh\ncat > /dev/null\ncat '{folder}/answers'\n")
         (folder / "bin/desk").chmod(0o755)
         done = show(day, tool=folder / "tools/day")
-        expect(done.returncode == 3 and said in done.stderr and "promise" not in done.stdout, f"line {at} as {line!r}: {done.returncode}, {done.stderr!r}")
+        expect(done.returncode == 3 and said in done.stderr and not done.stdout, f"line {at} as {line!r}: {done.returncode}, {done.stderr!r}")
 
 
 def main():
     with tempfile.TemporaryDirectory() as name:
         folder = Path(name)
         worked(folder / "worked")
-        stretches = days = 0
+        stretches = days = told = 0
         for run in sorted(VECTORS.iterdir()):
+            told += decisions(run)
             sheet = (run / "shares.txt").read_bytes() if (run / "shares.txt").exists() else None
             stretches += counted(folder / run.name, run.name, sheet, (run / "events.bin").read_bytes())
             days += 1
         tight = show(folder / "tight", "--brief").stdout
-        expect("partition 0 is promised 200 cycles, and got 200 or more in 1 stretch of 10 ticks" in tight, "tight is not tight")
+        expect("partition 0 got 200 cycles or more where 200 are promised (1 stretch of 10 ticks)" in tight, "tight is not tight")
         for seed in range(24):
             window, shares = 2 + seed % 5, ((50, 30, 20), (90, 10), (34, 33, 33, 0))[seed % 3]
             sheet = sheet_of(window, 400, shares, seed % 2)
@@ -162,7 +189,8 @@ def main():
         example()
         statuses(folder / "statuses")
         disagreeing(folder / "disagreeing")
-    print(f"days: {days} days and {stretches} stretches counted as document 01 says, {expect.wrong} things wrong")
+        expect(told > 500, f"only {told} decisions were explained")
+    print(f"days: {days} days and {stretches} stretches counted as document 01 says, {told} decisions explained, {expect.wrong} things wrong")
     sys.exit(expect.wrong != 0)
 
 

@@ -40,8 +40,7 @@ def remarks(account, names):
             found.append(f"no promise: {name} has a bound of {count(bound)}, which is not above 0{least}")
         elif job.stretches:
             stretches = "1 stretch" if job.stretches == 1 else f"{count(job.stretches)} stretches"
-            found.append(f"promise kept: {name} is promised {count(bound)} cycles, and got {count(job.least)} or more in {stretches} of {stretch} "
-                         "in which it always wanted the processor")
+            found.append(f"promise kept: {name} got {count(job.least)} cycles or more where {count(bound)} are promised ({stretches} of {stretch})")
         else:
             found.append(f"promise not called on: {name} never wanted the processor for {stretch} in a row, all of them on time")
     if not any(account.starved(partition) for partition in range(len(account.jobs))):
