@@ -31,8 +31,9 @@ def worked(folder):
     fill(folder, WORKED_SHEET, WORKED_TEXT)
     done = show(folder)
     expect(done.returncode == 1, "a day with refusals has another status than 1")
-    has(done, "10 events, 2 of them refused; 4 ticks; 4,000 cycles, of which 0 idle (0.0 %)", "REFUSED (13), line 9 of day.txt: thread 1 is ready already",
-        "REFUSED (10), line 10 of day.txt: it would be 3,000 cycles since the last tick", "partition 0  ww##\n", "partition 1  ##ww\n", "nobody starved")
+    has(done, "10 events, 2 of them refused; 4 ticks; 4,000 cycles, of which 0 idle (0.0 %)", "nobody starved",
+        "REFUSED (13), line 9 of day.txt: thread 1 is ready already", "partition 0  ww##\n", "partition 1  ##ww\n",
+        "REFUSED (10), line 10 of day.txt: it would be 3,000 cycles since the last tick")
     row = ["50 %", "2,000", "50.0 %", "2,000", "2,000", "1,250", "-"]
     expect(table(done.stdout) == {"partition 0": row, "partition 1": row}, f"the run of document 01 has the rows {table(done.stdout)}")
     # after the tick at 2000 partition 1 has used its 2000, so that a lower priority wins
@@ -89,7 +90,8 @@ def example():
     rows = table(done.stdout)
     bounds = [rows[name][5] for name in ("tracking", "logger", "radio", "screen")]
     expect(bounds == ["37,750", "17,750", "7,750", "27,750"], f"the example's bounds are {bounds}")
-    expect(done.returncode == 1 and int(rows["radio"][6].replace(",", "")) >= 7750 and "promise kept: radio" in done.stdout, "no promise to the radio")
+    expect(done.returncode == 1 and int(rows["radio"][6].replace(",", "")) >= 7750, f"the radio's row is {rows['radio']}")
+    has(done, "promise kept: radio")
     # the radio sleeps for 30 ticks, runs for 700 cycles of the next and 200 of the one after, sleeps for 18 and waits
     has(done, "radio     " + 30 * "." + "#+" + 18 * "." + "w")
     data = subprocess.run([ROOT / "tools/events", "encode"], input=(folder / "day.txt").read_bytes(), stdout=subprocess.PIPE, check=True).stdout
@@ -120,7 +122,8 @@ def statuses(folder):
     fill(both, data=bytes([1] + [0] * 10 + [1]))
     for status, done, said in [
         (2, show(folder / "nowhere"), "is no folder"), (2, show(fill(folder / "empty")), "neither day.txt nor day.bin"),
-        (2, show(both), "which one is the day"), (2, show(good, "--at", "2"), "1 to 1"), (2, show(good, "--at", "x"), "invalid int"), (2, show(good, "--fly"), "unrecognized"),
+        (2, show(both), "which one is the day"), (2, show(good, "--at", "2"), "1 to 1"), (2, show(good, "--at", "x"), "invalid int"),
+        (2, show(good, "--fly"), "unrecognized"),
         (2, show(good, "--picture", folder / "no/such/folder.html"), "No such file"),
         (1, show(fill(folder / "typo", WORKED_SHEET, "0 tick\n5 fly\n")), "day.txt, line 2: 'fly' is no event"),
         (1, show(fill(folder / "names", WORKED_SHEET, "0 tick\n", names="0 a\n2 c\n")), "names.txt, line 2"),
@@ -144,8 +147,9 @@ def decisions(run):
             told += 1
             later = [line for line in text if line.startswith(f"job {step.line.partition} before ")]
             compete = sum(re.match(r"job \d+ +yes ", line) is not None for line in text)
-            expect(any(line.startswith(f"mode {step.line.mode}, ") for line in text) and any(f"thread {step.line.thread} runs" in line for line in text)
-                   and len(later) == compete - 1, f"{run.name}: the decision after event {step.number} is told as {text}")
+            said = "\n".join(text)
+            expect(f"\nmode {step.line.mode}, " in said and f"\nthread {step.line.thread} runs" in said and len(later) == compete - 1,
+                   f"{run.name}: the decision after event {step.number} is told as {said}")
     return told
 
 

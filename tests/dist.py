@@ -72,7 +72,8 @@ def built(folder):
     (folder / "path/rt").chmod(0o755)
 
     def build():
-        return subprocess.run([folder / "tools/build"], env={"PATH": f"{folder}/path:{os.environ['PATH']}"}, stdout=subprocess.PIPE, stderr=subprocess.STDOUT, text=True)
+        path = f"{folder}/path:{os.environ['PATH']}"
+        return subprocess.run([folder / "tools/build"], env={"PATH": path}, stdout=subprocess.PIPE, stderr=subprocess.STDOUT, text=True)
 
     def older(path):
         os.utime(path, (1, 1))
@@ -89,7 +90,8 @@ def built(folder):
     (folder / "broken").touch()
     older(folder / "target/bin/desk")
     last = build()
-    expect(last.returncode == 1 and "desk NOT PROVED" in last.stdout and "what the prover says otherwise" in last.stdout, f"a broken build says {last.stdout!r}")
+    expect(last.returncode == 1 and "desk NOT PROVED" in last.stdout and "what the prover says otherwise" in last.stdout,
+           f"a broken build says {last.stdout!r}")
 
 
 def main():

@@ -73,7 +73,7 @@ def main():
         if done.returncode == 0 or done.stdout or reason not in done.stderr.decode():
             wrong += 1
             print(f"events: {text!r}: {done.stderr.decode()!r} does not say {reason!r}")
-    print(f"events: {len(KNOWN) + 1} lines as the paper has their records, {len(streams)} streams there and back, {len(BAD)} bad lines refused, {wrong} wrong")
+    print(f"events: {len(KNOWN) + 1} lines as the paper has them, {len(streams)} streams there and back, {len(BAD)} bad lines refused, {wrong} wrong")
     sys.exit(wrong != 0)
 
 

@@ -1,6 +1,6 @@
 #!/usr/bin/env python3
-"""The page that tools/day writes: its numbers are the summary's, its lanes are the day's as worked out by hand or by document 01's words, an overdrawn
-job is seen as such, refusals are marked with their words, nothing is fetched from elsewhere, and a day of 100,000 events stays small.
+"""The page that tools/day writes: its numbers are the summary's, its lanes are the day's as worked out by hand or by document 01's words, an
+overdrawn job is seen as such, refusals are marked with their words, nothing is fetched from elsewhere, and a day of 100,000 events stays small.
 """
 import re
 import shutil
@@ -93,14 +93,16 @@ def worked(folder):
         expect(rows_of(page, job, "thread")[0]["name"] == thread, f"{job} has the lane {rows_of(page, job, 'thread')[0]['name']}")
         expect(rows_of(page, job, "used")[0]["name"] == "used, at most 2,000budget 2,000 (dashed)", f"{job}: {rows_of(page, job, 'used')[0]['name']}")
     words = "\n".join(page.marks)
-    expect("thread 1 is ready already" in words and "3,000 cycles since the last tick" in words and "line 9 of day.txt" in words, f"the marks say {words!r}")
-    expect([row[:4] for row in page.tables["refusals"][1:]] == [["9", "line 9 of day.txt", "4500 ready 1", "13"], ["10", "line 10 of day.txt", "7000 tick", "10"]],
-           f"the refusals are {page.tables['refusals']}")
+    for said in ("thread 1 is ready already", "line 9 of day.txt", "3,000 cycles since the last tick"):
+        expect(said in words, f"the marks say {words!r}, and not {said!r}")
+    refusals = [["9", "line 9 of day.txt", "4500 ready 1", "13"], ["10", "line 10 of day.txt", "7000 tick", "10"]]
+    expect([row[:4] for row in page.tables["refusals"][1:]] == refusals, f"the refusals are {page.tables['refusals']}")
 
 
 def overdrawn(folder):
     """Alone for two ticks in a window of two: 2000 used, of a budget of 1000. Its thread sleeps half a tick, another may run on core 1 alone."""
-    text = "0 create 0 partition 0 priority 1 mask 1\n0 create 3 partition 0 priority 2 mask 2\n0 ready 0\n1000 ticks 2 every 1000\n2500 block 0\n3000 ready 3\n4000 tick\n"
+    text = ("0 create 0 partition 0 priority 1 mask 1\n0 create 3 partition 0 priority 2 mask 2\n0 ready 0\n"
+            "1000 ticks 2 every 1000\n2500 block 0\n3000 ready 3\n4000 tick\n")
     page, text, _ = drawn(fill(folder, sheet_of(2, 1000, (50, 50)), text, names="0 <hog> & co\n"))
     used = rows_of(page, "<hog> & co", "used")[0]["name"]
     expect("at most 2,000" in used and "overdrawn by 1,000" in used, f"an overdrawn job is told as {used!r}")
@@ -120,8 +122,9 @@ def measured(folder, seed):
     for p in range(3):
         strokes = rows_of(page, f"partition {p}", "job")[0]["strokes"]
         for kind, cycles in (("running", judged.charged(p)), ("ready", judged.waited(p))):
-            length = sum(end - start for start, end in strokes.get(kind, []))
-            expect(abs(length - cycles * WIDTH / judged.whole()) <= 6 * max(len(strokes.get(kind, [])), 1), f"day {seed}: partition {p}, {kind} is {length} long")
+            pieces = strokes.get(kind, [])
+            length = sum(end - start for start, end in pieces)
+            expect(abs(length - cycles * WIDTH / judged.whole()) <= 6 * max(len(pieces), 1), f"day {seed}: partition {p}, {kind} is {length} long")
 
 
 def large(folder):
@@ -132,7 +135,8 @@ def large(folder):
     expect(len(text) < 1_500_000, f"the page of a long day has {len(text)} bytes")
     for p in range(3):
         for row in rows_of(page, f"partition {p}", "job") + rows_of(page, f"partition {p}", "thread"):
-            expect(0 < sum(len(strokes) for strokes in row["strokes"].values()) <= 2 * WIDTH / 10, f"partition {p}, {row['name']}: too many pieces, or none")
+            pieces = sum(len(strokes) for strokes in row["strokes"].values())
+            expect(0 < pieces <= 2 * WIDTH / 10, f"partition {p}, {row['name']}: {pieces} pieces")
 
 
 def main():

@@ -47,12 +47,15 @@ def worked(folder):
     """Document 01's run, by hand."""
     trace = Trace(fill(folder, WORKED_SHEET, WORKED_TEXT, names="0 tracking\n1 screen\n"))
     expect(sorted(trace.processes.values()) == ["screen", "the day", "tracking"], f"the processes are {trace.processes}")
-    expect(trace.slices["tracking", "thread 0"] == [(0, 2000, "waiting"), (2000, 4000, "running")], f"thread 0: {trace.slices['tracking', 'thread 0']}")
-    expect(trace.slices["screen", "thread 1"] == [(0, 2000, "running"), (2000, 4000, "waiting")], f"thread 1: {trace.slices['screen', 'thread 1']}")
-    expect([s[:2] for s in trace.slices["the day", "tick periods"]] == [(0, 1000), (1000, 2000), (2000, 3000), (3000, 4000)], "tick periods are others")
+    for track, slices in ((("tracking", "thread 0"), [(0, 2000, "waiting"), (2000, 4000, "running")]),
+                          (("screen", "thread 1"), [(0, 2000, "running"), (2000, 4000, "waiting")])):
+        expect(trace.slices[track] == slices, f"{track} has the slices {trace.slices[track]}")
+    periods = [(start, end) for start, end, _ in trace.slices["the day", "tick periods"]]
+    expect(periods == [(0, 1000), (1000, 2000), (2000, 3000), (3000, 4000)], f"the tick periods are {periods}")
     # the tick at 4000 moves to the slot of the first tick, in which partition 1 was charged 1000
-    expect(dict(trace.counters["screen", "used"]) == {0: 0, 1000: 1000, 2000: 2000, 4000: 1000}, f"used is {trace.counters['screen', 'used']}")
-    expect(dict(trace.counters["tracking", "remaining"]) == {0: 2000, 2000: 2000, 3000: 1000, 4000: 0}, f"remaining is {trace.counters['tracking', 'remaining']}")
+    for counter, values in ((("screen", "used"), {0: 0, 1000: 1000, 2000: 2000, 4000: 1000}),
+                            (("tracking", "remaining"), {0: 2000, 2000: 2000, 3000: 1000, 4000: 0})):
+        expect(dict(trace.counters[counter]) == values, f"{counter} is {trace.counters[counter]}")
     expect([name for name, _ in trace.instants] == ["refused 13", "refused 10"] and trace.instants[0][1]["event"] == 9
            and "thread 1 is ready already" in trace.instants[0][1]["why"], f"the instants are {trace.instants}")
 
@@ -63,12 +66,14 @@ def measured(folder, seed):
     lines = desk_lines(folder, data)
     judged = Judged(sheet, data, lines)
     for p in range(3):
-        expect(trace.total(f"partition {p}", "running") == judged.charged(p), f"day {seed}: partition {p} runs {trace.total(f'partition {p}', 'running')}")
+        running = trace.total(f"partition {p}", "running")
+        expect(running == judged.charged(p), f"day {seed}: partition {p} runs {running}")
         used, remaining = trace.counters[f"partition {p}", "used"], trace.counters[f"partition {p}", "remaining"]
         budget = judged.shares[p] * 4 * 400 // 100
         expect(all((t, budget - u) == r for (t, u), r in zip(used, remaining, strict=True)), f"day {seed}: remaining is not budget less used")
     expect(trace.total("the day", "idle") == sum(e for e, r in zip(judged.elapsed, judged.ran) if r is None), f"day {seed}: idle time is other")
-    expect(sum(name.startswith("refused") for name, _ in trace.instants) == sum(line[:2] != b"00" for line in lines), f"day {seed}: refusals are missing")
+    refused = sum(line[:2] != b"00" for line in lines)
+    expect(sum(name.startswith("refused") for name, _ in trace.instants) == refused, f"day {seed}: refusals are missing")
     expect(sum(name == "resume" for name, _ in trace.instants) == judged.kinds.count(7), f"day {seed}: resumes are missing")
 
 

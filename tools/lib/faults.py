@@ -96,7 +96,7 @@ def line_faults(place, line):
         skipped = 3
     text = line[skipped:]
     if text.endswith(b"\r"):
-        yield Fault(place, len(line), "there is a carriage return before the line feed: the file has Windows line ends; save it with Unix line ends (LF)")
+        yield Fault(place, len(line), "a carriage return before the line feed: the file has Windows line ends; save it with Unix line ends (LF)")
         text = text[:-1]
     if text != text.rstrip(b" \t\r") and text.strip():
         text = text.rstrip(b" \t\r")
