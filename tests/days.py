@@ -117,6 +117,8 @@ def statuses(folder):
     expect(show(good).returncode == 0 and "# a remark" in show(good).stdout, "a good day has another status than 0, or loses its remark")
     data = fill(folder / "data", WORKED_SHEET, data=bytes([1] + [0] * 11) + b"\x01\x02")
     has(show(data), "REFUSED (14), record 2 of day.bin: the record is cut: 2 of 12 bytes")
+    clock = fill(folder / "clock", WORKED_SHEET, "700 tick\n200 tick\n1500000700 tick\n")
+    has(show(clock), "line 2 of day.txt: the clock goes back by 500\n", "line 3 of day.txt: it would be 1,500,000,000 cycles since the last tick")
     both = fill(folder / "both", WORKED_SHEET, "0 tick\n", data=bytes([1] + [0] * 11))
     expect(show(both).returncode == 0, "a day.bin made from day.txt is in the way")
     fill(both, data=bytes([1] + [0] * 10 + [1]))
@@ -127,6 +129,7 @@ def statuses(folder):
         (2, show(good, "--picture", folder / "no/such/folder.html"), "No such file"),
         (1, show(fill(folder / "typo", WORKED_SHEET, "0 tick\n5 fly\n")), "day.txt, line 2: 'fly' is no event"),
         (1, show(fill(folder / "names", WORKED_SHEET, "0 tick\n", names="0 a\n2 c\n")), "names.txt, line 2"),
+        (1, show(fill(folder / "twice", WORKED_SHEET, "0 tick\n", names="\n0 a\n0 b\n")), "names.txt, line 3"),
     ]:
         expect(done.returncode == status and said in done.stderr, f"{done.args[1:]}: status {done.returncode}, {done.stderr!r}")
     expect(show(fill(folder / "bare", text="0 tick\n")).returncode == 1, "a day without a sheet is not refused")

@@ -57,6 +57,8 @@ def packed(folder):
         here = show(ROOT / "examples" / example)
         done = subprocess.run(["tools/day", f"examples/{example}"], cwd=root, env={"PATH": os.environ["PATH"]}, stdout=subprocess.PIPE, text=True)
         expect(done.stdout == here.stdout and done.returncode == here.returncode == 1, f"{example} is shown otherwise from the archive")
+    subprocess.run(["tools/day", "examples/workshop", "--picture", "page.html"], cwd=root, stdout=subprocess.PIPE)
+    expect((root / "page.html").exists() and "<svg" in (root / "page.html").read_text(), "no picture can be made from the archive")
     done = subprocess.run(["tools/sheet", "check", "examples/workshop/shares.txt"], cwd=root, stdout=subprocess.PIPE, text=True)
     expect(done.returncode == 0 and "radio      10 %" in done.stdout, "tools/sheet does not work from the archive")
 

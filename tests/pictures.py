@@ -127,6 +127,26 @@ def measured(folder, seed):
             expect(abs(length - cycles * WIDTH / judged.whole()) <= 6 * max(len(pieces), 1), f"day {seed}: partition {p}, {kind} is {length} long")
 
 
+def joined(folder):
+    """Pieces that are narrower than a pixel: 1600 ticks in each of which a thread runs for a quarter, 400 asleep, 1600 in which it runs for three
+    quarters. A pixel of 1600 is more than two ticks, so that it is drawn as running a little, asleep, and running."""
+    text, now = ["0 create 0 partition 0 priority 1 mask 1"], 0
+    for count, part in ((1600, 250), (400, 0), (1600, 750)):
+        for _ in range(count):
+            text += [f"{now} ready 0", f"{now + part} block 0"] if part else []
+            now += 1000
+            text.append(f"{now} tick")
+    page, _, _ = drawn(fill(folder, sheet_of(2, 1000, (100,)), "\n".join(text)))
+    strokes = rows_of(page, "partition 0", "job")[0]["strokes"]
+    first, second = 1600 * WIDTH // 3600, 2000 * WIDTH // 3600
+    for kind, start, end in (("little", 0, first), ("blocked", first, second), ("running", second, WIDTH)):
+        pieces = strokes[kind]
+        expect(abs(pieces[0][0] - start) <= 20 and abs(pieces[-1][1] - end) <= 20 and sum(b - a for a, b in pieces) >= end - start - 40,
+               f"narrow pieces: {kind} is drawn from {pieces[0][0]} to {pieces[-1][1]}, {len(pieces)} pieces")
+        expect(all(a[1] <= b[0] + 10 for a, b in zip(pieces, pieces[1:])), f"narrow pieces: those of {kind} overlap")
+    expect(set(strokes) == {"little", "blocked", "running"}, f"narrow pieces are drawn as {set(strokes)}")
+
+
 def large(folder):
     """100,000 events and more: joined, the page stays small and every job has its lanes."""
     sheet, data = sheet_of(100, 1000, (50, 30, 20)), random_day(1, 100, 1000, 3, 9, 58000)
@@ -146,11 +166,12 @@ def main():
         overdrawn(folder / "overdrawn")
         for seed in range(6):
             measured(folder / f"day{seed}", seed)
+        joined(folder / "joined")
         large(folder / "large")
         shutil.copytree(ROOT / "examples/workshop", folder / "workshop")
         page, _, _ = drawn(folder / "workshop")
         expect([row["name"] for row in rows_of(page, "screen", "thread")] == ["thread 3", "thread 4"], "the screen's threads have other lanes")
-    print(f"pictures: pages of 10 days, one of them of 100,000 events, {expect.wrong} things wrong")
+    print(f"pictures: pages of 11 days, one of them of 100,000 events, {expect.wrong} things wrong")
     sys.exit(expect.wrong != 0)
 
 

@@ -107,11 +107,11 @@ class Account:
         self.opened, self.by_tick = self.now, True
 
     def resume(self):
-        """A resume starts over: no wait and no stretch goes on behind it."""
+        """A resume starts over: no wait goes on behind it, and no stretch, because the next tick's period was not opened by a tick."""
         self.cut_period()
         for job in self.jobs:
             job.strip.append(RESUMED)
-            job.wait = job.full = 0
+            job.wait = 0
         self.ruler.append(0)
         self.opened, self.by_tick = self.now, False
 
