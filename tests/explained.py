@@ -163,7 +163,8 @@ def main():
     for text, reason in [(b"window 100\ntick 1000\nshare 0 0,5", b"line 3: share 0 is a whole number, and not '0,5'"),
                          (b"tick 1000\nshare 0 100", b"window"), (b"window 100\ntick 1000\nshare 1 100", b"share 0"),
                          (b"window 4\nwindow 5", b"line 2: window is there twice"), (b"window 100\ntick 1000\nshare 0 99", b"refused with 6"),
-                         (b"window 100\ntick 1000", b"refused with 1"), (b"window 1000000", b"six digits"), (b"share 16 5", b"0 to 15"), (b"weight 3", b"write it as")]:
+                         (b"window 100\ntick 1000", b"refused with 1"), (b"window 1000000", b"six digits"), (b"share 16 5", b"0 to 15"),
+                         (b"weight 3", b"write it as")]:
         done = tool("encode", data=text)
         expect(done.returncode == 1 and not done.stdout and reason in done.stderr, f"{text!r}: {done.stderr!r} does not say {reason!r}")
     expect(tool("decode", data=GOOD[:-1]).returncode == 1, "a cut sheet is decoded")

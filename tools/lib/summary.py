@@ -27,25 +27,28 @@ def explained(account):
 
 
 def remarks(account, names):
-    """What there is to say of each job: starved or not, promise or none, and whether the day shows the promise."""
-    sheet, found = account.sheet, []
-    stretch = f"{sheet.stretch()} ticks"
-    for partition, job in enumerate(account.jobs):
-        name, bound = names[partition], sheet.bound(partition)
-        if account.starved(partition):
-            found.append(f"{STARVED}{name} waited {count(job.longest)} cycles, up to cycle {count(job.longest_end)} of the day, "
-                         f"without one of its own; that is longer than {stretch}")
-        if bound <= 0:
-            least = f"; the least it got in {stretch} that it wanted was {count(job.least)}" if job.stretches else ""
-            found.append(f"no promise: {name} has a bound of {count(bound)}, which is not above 0{least}")
-        elif job.stretches:
-            stretches = "1 stretch" if job.stretches == 1 else f"{count(job.stretches)} stretches"
-            found.append(f"promise kept: {name} got {count(job.least)} cycles or more where {count(bound)} are promised ({stretches} of {stretch})")
-        else:
-            found.append(f"promise not called on: {name} never wanted the processor for {stretch} in a row, all of them on time")
-    if not any(account.starved(partition) for partition in range(len(account.jobs))):
-        found.insert(0, f"nobody starved: no job waited longer than {stretch} ({count(sheet.stretch() * sheet.tick)} cycles) without a cycle")
-    return found
+    """Who starved, and of each job: promise or none, and whether the day shows the promise."""
+    sheet = account.sheet
+    starved = [starved_words(account, partition, names) for partition in range(len(names)) if account.starved(partition)]
+    nobody = f"nobody starved: no job waited longer than {sheet.stretch()} ticks ({count(sheet.stretch() * sheet.tick)} cycles) without a cycle"
+    return (starved or [nobody]) + [promise_words(account, partition, names) for partition in range(len(names))]
+
+
+def starved_words(account, partition, names):
+    job = account.jobs[partition]
+    return (f"{STARVED}{names[partition]} waited {count(job.longest)} cycles, up to cycle {count(job.longest_end)} of the day, without one of its own; "
+            f"that is longer than {account.sheet.stretch()} ticks")
+
+
+def promise_words(account, partition, names):
+    job, name, bound, stretch = account.jobs[partition], names[partition], account.sheet.bound(partition), f"{account.sheet.stretch()} ticks"
+    if bound <= 0:
+        least = f"; the least it got in {stretch} that it wanted was {count(job.least)}" if job.stretches else ""
+        return f"no promise: {name} has a bound of {count(bound)}, which is not above 0{least}"
+    if not job.stretches:
+        return f"promise not called on: {name} never wanted the processor for {stretch} in a row, all of them on time"
+    stretches = "1 stretch" if job.stretches == 1 else f"{count(job.stretches)} stretches"
+    return f"promise kept: {name} got {count(job.least)} cycles or more where {count(bound)} are promised ({stretches} of {stretch})"
 
 
 def ruler(ticks):
