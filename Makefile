@@ -1,5 +1,6 @@
-# `make run` does the main job on the example day, `make test` runs every check, `make bench` measures (it is no test).
-.PHONY: run test bench
+# `make run` does the main job on the example day, `make test` runs every check, `make bench` measures (it is no test), `make install PREFIX=FOLDER`
+# puts the C library, its header and a pkg-config file into a folder.
+.PHONY: run test bench install
 
 run:
 	@tools/run
@@ -9,3 +10,6 @@ test:
 
 bench:
 	@tools/bench
+
+install:
+	@PREFIX='$(PREFIX)' DESTDIR='$(DESTDIR)' tools/install
