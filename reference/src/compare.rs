@@ -20,12 +20,12 @@ mod proved;
 mod sound;
 mod states;
 
-use damage::Damage;
 use fenced::{Edge, Fenced};
 use proved::{Settings, State};
 use reference::plain::Plain;
-use reference::streams::{answer, stream, Case, Reach};
+use reference::streams::{answer, stream, Case, Random, Reach};
 use reference::{read_sheet, write_sheet, Balance, Kept, Line, Scheduler, RECORD};
+use states::Saved;
 use std::process::ExitCode;
 use std::sync::atomic::{AtomicU64, Ordering};
 use std::time::Instant;
@@ -68,39 +68,16 @@ fn same<T: PartialEq + std::fmt::Debug>(what: &str, wanted: &T, found: &T) -> Ch
         .ok_or_else(|| differs(format!("{what}: {wanted:?} is wanted, and not {found:?}")))
 }
 
-/// A state and its history.
-#[derive(Clone, PartialEq, Eq)]
-struct Saved {
-    state: State,
-    history: Vec<u32>,
-}
-
-impl Saved {
-    /// Before a start: so much history, and whatever there may be.
-    fn old(numbers: usize) -> Saved {
-        Saved {
-            state: State::filled(OLD_BYTE),
-            history: vec![OLD_NUMBER; numbers],
-        }
+/// Holds a state and its history to what they have to be.
+fn same_saved(what: &str, wanted: &Saved, found: &Saved) -> Checked {
+    if wanted == found {
+        return Ok(());
     }
-
-    /// Takes over what a scheduler keeps. Numbers after the rows stay.
-    fn set(&mut self, kept: &impl Kept) {
-        self.state = states::state(kept);
-        states::write_rows(kept, &mut self.history);
-    }
-
-    /// Holds another to this one.
-    fn same(&self, what: &str, found: &Saved) -> Checked {
-        if self == found {
-            return Ok(());
-        }
-        let mut states = [self.state, found.state];
-        let [wanted, given] = states.each_mut().map(|state| &state.bytes()[..]);
-        first_difference(&format!("{what}, byte of the state"), wanted, given)?;
-        let what = format!("{what}, number of the history");
-        first_difference(&what, &self.history, &found.history)
-    }
+    let mut states = [wanted.state, found.state];
+    let [state, other] = states.each_mut().map(|state| &state.bytes()[..]);
+    first_difference(&format!("{what}, byte of the state"), state, other)?;
+    let what = format!("{what}, number of the history");
+    first_difference(&what, &wanted.history, &found.history)
 }
 
 fn first_difference<T: PartialEq + std::fmt::Debug>(
@@ -126,7 +103,7 @@ struct Counts {
 }
 
 struct Comparison {
-    damage: Damage,
+    random: Random,
     fenced: Fenced,
     reach: Reach,
     counts: Counts,
@@ -135,16 +112,21 @@ struct Comparison {
 impl Comparison {
     fn new() -> Comparison {
         Comparison {
-            damage: Damage::new(0),
+            random: Random::new(0),
             fenced: Fenced::new(ROOM),
             reach: Reach::default(),
             counts: Counts::default(),
         }
     }
 
+    /// A number below n.
+    fn below(&mut self, n: usize) -> usize {
+        self.random.below(n as u32) as usize
+    }
+
     fn case(&mut self, seed: u64, case: &Case, lines: &[u8], closely: bool) -> Checked {
-        self.damage = Damage::new(seed);
-        self.fenced.edge = [Edge::First, Edge::Last][self.damage.below(2)];
+        self.random = Random::new(seed);
+        self.fenced.edge = self.random.pick(&[Edge::First, Edge::Last]);
         self.reach.count(case, lines);
         let second = Scheduler::start(&case.sheet).ok();
         self.sheet(case, closely)?;
@@ -155,7 +137,7 @@ impl Comparison {
         self.run(case, &second, lines, lines.len() + 2 * RECORD)?;
         let last = self.events(case, &second, closely)?;
         if closely {
-            let room = self.damage.below(lines.len() + 1);
+            let room = self.below(lines.len() + 1);
             self.run(case, &second, lines, room)?;
             self.records(case, &second, lines)?;
             self.each_byte(&last, seed % 320 == 0)?;
@@ -181,12 +163,12 @@ impl Comparison {
         self.written(&read, sheet.len())?;
         if closely {
             self.written(&read, sheet.len() - 1)?;
-            let room = self.damage.below(2 * sheet.len());
+            let room = self.below(2 * sheet.len());
             self.written(&read, room)?;
             for _ in 0..4 {
                 let mut other = read;
-                self.damage.settings(&mut other);
-                let room = sheet.len() - RECORD + self.damage.below(3 * RECORD);
+                damage::settings(&mut self.random, &mut other);
+                let room = sheet.len() - RECORD + self.below(3 * RECORD);
                 self.written(&other, room)?;
             }
         }
@@ -214,7 +196,7 @@ impl Comparison {
     fn start(&mut self, case: &Case, second: Option<&Scheduler>) -> Checked {
         let mut sheet = case.sheet.clone();
         let rows = second.map_or(0, |second| states::wanted(second.settings()));
-        let mut found = Saved::old(rows + BEHIND);
+        let mut found = Saved::filled(OLD_BYTE, rows + BEHIND);
         let mut wanted = found.clone();
         let told = match second {
             Some(second) => {
@@ -223,21 +205,18 @@ impl Comparison {
             }
             None => read_sheet(&sheet).err().unwrap_or(0).into(),
         };
-        let refusal = self
-            .fenced
-            .start(&mut sheet, &mut found.state, &mut found.history);
+        let refusal = self.fenced.start(&mut sheet, &mut found);
         same("start", &told, &refusal)?;
-        wanted.same("a start", &found)?;
+        same_saved("a start", &wanted, &found)?;
         if second.is_some() {
             // One number too few, or any number of them.
-            let short = [rows - 1, self.damage.below(rows)][self.damage.below(2)];
-            let mut found = Saved::old(short);
+            let any = self.below(rows);
+            let short = self.random.pick(&[rows - 1, any]);
+            let mut found = Saved::filled(OLD_BYTE, short);
             let wanted = found.clone();
-            let refusal = self
-                .fenced
-                .start(&mut sheet, &mut found.state, &mut found.history);
+            let refusal = self.fenced.start(&mut sheet, &mut found);
             same("start with too short a history", &7, &refusal)?;
-            wanted.same("a start with too short a history", &found)?;
+            same_saved("a start with too short a history", &wanted, &found)?;
             self.reach.refusals[7] += 1;
         }
         check(sheet == case.sheet, "start changed the sheet")
@@ -246,17 +225,12 @@ impl Comparison {
     /// All events in one run, with so much room for lines.
     fn run(&mut self, case: &Case, second: &Scheduler, lines: &[u8], room: usize) -> Checked {
         let mut second = second.clone();
-        let mut saved = Saved::old(states::wanted(second.settings()) + BEHIND);
+        let mut saved = Saved::filled(OLD_BYTE, states::wanted(second.settings()) + BEHIND);
         saved.set(&second);
         let mut wanted = saved.clone();
         let mut events = case.events.clone();
         let mut found = vec![OLD_BYTE; room];
-        let refusal = self.fenced.run(
-            &mut saved.state,
-            &mut saved.history,
-            &mut events,
-            &mut found,
-        );
+        let refusal = self.fenced.run(&mut saved, &mut events, &mut found);
         same("run", &0, &refusal)?;
         let whole = lines.len().min(room - room % RECORD);
         let (written, rest) = found.split_at(whole);
@@ -270,7 +244,7 @@ impl Comparison {
             second.event(event);
         }
         wanted.set(&second);
-        wanted.same("after the run", &saved)
+        same_saved("after the run", &wanted, &saved)
     }
 
     /// By single events, each followed by a look at the whole state. What
@@ -282,7 +256,7 @@ impl Comparison {
         closely: bool,
     ) -> Result<Saved, Difference> {
         let mut second = second.clone();
-        let mut saved = Saved::old(states::wanted(second.settings()));
+        let mut saved = Saved::filled(OLD_BYTE, states::wanted(second.settings()));
         saved.set(&second);
         let mut wanted = saved.clone();
         for (place, record) in case.events.chunks(RECORD).enumerate() {
@@ -290,28 +264,25 @@ impl Comparison {
                 event: Some(place),
                 ..difference
             };
-            if closely && self.damage.below(16) == 0 {
-                let changed = self.changed(&saved);
-                self.given(&changed, record).map_err(here)?;
+            if closely && self.below(16) == 0 {
+                let mut changed = saved.clone();
+                damage::saved(&mut self.random, &mut changed);
+                self.on_any_state(&changed, record).map_err(here)?;
             }
             let mut event = record.to_vec();
-            let line = self
-                .fenced
-                .event(&mut saved.state, &mut saved.history, &mut event);
+            let line = self.fenced.event(&mut saved, &mut event);
             let told = second.event(record);
             same("an event", &told, &line).map_err(here)?;
             // A refused one leaves what was there before.
             if told.refusal == 0 {
                 wanted.set(&second);
             }
-            wanted.same("after an event", &saved).map_err(here)?;
+            same_saved("after an event", &wanted, &saved).map_err(here)?;
             same("an event's bytes", &record, &&event[..]).map_err(here)?;
             self.counts.events += 1;
             if closely {
                 self.asked(&second, &mut saved).map_err(here)?;
-                wanted
-                    .same("after decision and remaining", &saved)
-                    .map_err(here)?;
+                same_saved("after decision and remaining", &wanted, &saved).map_err(here)?;
             }
         }
         Ok(saved)
@@ -320,7 +291,7 @@ impl Comparison {
     /// Decision, and remaining of each partition and of some that are not
     /// there.
     fn asked(&mut self, second: &Scheduler, saved: &mut Saved) -> Checked {
-        let decision = self.fenced.decision(&mut saved.state, &mut saved.history);
+        let decision = self.fenced.decision(saved);
         same("decision", &second.decision(), &decision)?;
         let count = second.settings().partitions as u32;
         for partition in (0..=count).chain([16, 256, 1 << 16, 1 << 31, u32::MAX]) {
@@ -338,9 +309,7 @@ impl Comparison {
         told: Result<Balance, u8>,
     ) -> Checked {
         let mut found = OLD_NUMBER;
-        let refusal =
-            self.fenced
-                .remaining(&mut saved.state, &mut saved.history, partition, &mut found);
+        let refusal = self.fenced.remaining(saved, partition, &mut found);
         let wanted = match told {
             Ok(Balance(remaining)) => (0, remaining as u32),
             Err(number) => (number.into(), OLD_NUMBER),
@@ -352,61 +321,46 @@ impl Comparison {
     /// By runs of a few records.
     fn records(&mut self, case: &Case, second: &Scheduler, lines: &[u8]) -> Checked {
         let mut second = second.clone();
-        let mut saved = Saved::old(states::wanted(second.settings()));
+        let mut saved = Saved::filled(OLD_BYTE, states::wanted(second.settings()));
         saved.set(&second);
         let mut wanted = saved.clone();
         let mut found = vec![OLD_BYTE; lines.len()];
         let mut at = 0;
         while at < case.events.len() {
-            let end = case
-                .events
-                .len()
-                .min(at + RECORD * (1 + self.damage.below(40)));
+            let end = case.events.len().min(at + RECORD * (1 + self.below(40)));
             let mut events = case.events[at..end].to_vec();
-            let refusal = self.fenced.run(
-                &mut saved.state,
-                &mut saved.history,
-                &mut events,
-                &mut found[at..],
-            );
+            let refusal = self.fenced.run(&mut saved, &mut events, &mut found[at..]);
             same("a run of a few records", &0, &refusal)?;
             for event in events.chunks(RECORD) {
                 second.event(event);
                 self.counts.records += 1;
             }
             wanted.set(&second);
-            wanted.same("after a run of a few records", &saved)?;
+            same_saved("after a run of a few records", &wanted, &saved)?;
             at = end;
         }
         same_lines("runs of a few records", lines, &found)
     }
 
-    /// A state with something changed.
-    fn changed(&mut self, saved: &Saved) -> Saved {
-        let mut changed = saved.clone();
-        self.damage.saved(&mut changed.state, &mut changed.history);
-        changed
-    }
-
     /// All doors that are given a state, on any state.
-    fn given(&mut self, given: &Saved, record: &[u8]) -> Checked {
-        let refusal = sound::refused(&given.state, &given.history);
-        let mut plain = (refusal == 0).then(|| states::plain(&given.state, &given.history));
+    fn on_any_state(&mut self, given: &Saved, record: &[u8]) -> Checked {
+        let refusal = sound::refused(given);
+        let mut plain = (refusal == 0).then(|| states::plain(given));
         let refused = Line::refused(refusal);
 
         let mut saved = given.clone();
-        let decision = self.fenced.decision(&mut saved.state, &mut saved.history);
+        let decision = self.fenced.decision(&mut saved);
         let told = plain.as_ref().map_or(refused, Plain::decision);
         same("decision on a changed state", &told, &decision)?;
         let count = given.state.settings.count;
-        let partition = self.damage.below(18) as u32;
+        let partition = self.random.below(18);
         let told = match &plain {
             None => Err(refusal),
             Some(_) if partition >= count => Err(12),
             Some(plain) => Ok(Balance(plain.remaining(partition as usize))),
         };
         self.remaining(&mut saved, partition, told)?;
-        given.same("decision or remaining on a changed state", &saved)?;
+        same_saved("decision or remaining on a changed state", given, &saved)?;
 
         let mut wanted = given.clone();
         let told = plain.as_mut().map_or(refused, |plain| plain.event(record));
@@ -414,11 +368,9 @@ impl Comparison {
             wanted.set(plain);
         }
         let mut event = record.to_vec();
-        let line = self
-            .fenced
-            .event(&mut saved.state, &mut saved.history, &mut event);
+        let line = self.fenced.event(&mut saved, &mut event);
         same("an event on a changed state", &told, &line)?;
-        wanted.same("after an event on a changed state", &saved)?;
+        same_saved("after an event on a changed state", &wanted, &saved)?;
 
         let mut saved = given.clone();
         let mut lines = [OLD_BYTE; RECORD];
@@ -426,11 +378,9 @@ impl Comparison {
         if refusal == 0 {
             told.write(&mut text);
         }
-        let run = self
-            .fenced
-            .run(&mut saved.state, &mut saved.history, &mut event, &mut lines);
+        let run = self.fenced.run(&mut saved, &mut event, &mut lines);
         same("a run on a changed state", &u32::from(refusal), &run)?;
-        wanted.same("after a run on a changed state", &saved)?;
+        same_saved("after a run on a changed state", &wanted, &saved)?;
         same("the line of a run on a changed state", &text, &lines)?;
         check(event == record, "an event's bytes were changed")?;
 
@@ -457,11 +407,8 @@ impl Comparison {
         for place in 0..proved::STATE + 4 * saved.history.len() {
             let values = if all { 255 } else { 3 };
             for value in 1..=values {
-                let by = if all {
-                    value
-                } else {
-                    1 << self.damage.below(8)
-                };
+                let bit = 1 << self.random.below(8);
+                let by = if all { value } else { bit };
                 let mut changed = saved.clone();
                 let byte = match place.checked_sub(proved::STATE) {
                     None => &mut changed.state.bytes()[place],
@@ -470,11 +417,11 @@ impl Comparison {
                 *byte ^= by;
                 let odd = *byte > 1 && damage::FLAGS.contains(&place);
                 if odd {
-                    let refusal = sound::refused(&changed.state, &changed.history);
+                    let refusal = sound::refused(&changed);
                     same("a flag that is neither 0 nor 1", &8, &refusal)?;
                     self.counts.flags += 1;
                 }
-                self.given(&changed, &tick)
+                self.on_any_state(&changed, &tick)
                     .map_err(|Difference { what, event }| Difference {
                         what: format!("byte {place} changed by {by}: {what}"),
                         event,
@@ -546,7 +493,7 @@ fn fixed_cases(comparison: &mut Comparison) -> Result<usize, ExitCode> {
     let lines = answer(&case);
     let name = "the lowest priority, share 10";
     comparison
-        .case(1, &case, &lines, true)
+        .case(0, &case, &lines, true)
         .and_then(|()| check(fixed::charged(&lines) >= 7750, "less than 7,750 cycles"))
         .map_err(|difference| report(name, &case, &difference))?;
     println!(

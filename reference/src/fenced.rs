@@ -5,6 +5,7 @@
 //! copied back, what was lent for reading too.
 
 use crate::proved::{self, Parts, Settings, Sheet, State};
+use crate::states::Saved;
 use reference::Line;
 use std::ffi::{c_int, c_void};
 
@@ -175,70 +176,58 @@ impl Fenced {
         }
     }
 
-    pub fn start(&mut self, sheet: &mut [u8], state: &mut State, history: &mut [u32]) -> u32 {
+    pub fn start(&mut self, sheet: &mut [u8], saved: &mut Saved) -> u32 {
         let input = self.input.copy(self.edge, sheet);
-        let mut parts = self.state.copy(self.edge, state);
-        let rows = self.history.copy(self.edge, history);
+        let mut parts = self.state.copy(self.edge, &mut saved.state);
+        let rows = self.history.copy(self.edge, &saved.history);
         let refusal = proved::start(input, &mut parts, rows);
         sheet.copy_from_slice(input);
-        state.parts().copy_from(&parts);
-        history.copy_from_slice(rows);
+        saved.state.parts().copy_from(&parts);
+        saved.history.copy_from_slice(rows);
         refusal
     }
 
-    pub fn event(&mut self, state: &mut State, history: &mut [u32], event: &mut [u8]) -> Line {
-        let mut parts = self.state.copy(self.edge, state);
-        let rows = self.history.copy(self.edge, history);
+    pub fn event(&mut self, saved: &mut Saved, event: &mut [u8]) -> Line {
+        let mut parts = self.state.copy(self.edge, &mut saved.state);
+        let rows = self.history.copy(self.edge, &saved.history);
         let input = self.input.copy(self.edge, event);
         let line = proved::event(&mut parts, rows, input);
-        state.parts().copy_from(&parts);
-        history.copy_from_slice(rows);
+        saved.state.parts().copy_from(&parts);
+        saved.history.copy_from_slice(rows);
         event.copy_from_slice(input);
         line
     }
 
-    pub fn run(
-        &mut self,
-        state: &mut State,
-        history: &mut [u32],
-        events: &mut [u8],
-        lines: &mut [u8],
-    ) -> u32 {
-        let mut parts = self.state.copy(self.edge, state);
-        let rows = self.history.copy(self.edge, history);
+    pub fn run(&mut self, saved: &mut Saved, events: &mut [u8], lines: &mut [u8]) -> u32 {
+        let mut parts = self.state.copy(self.edge, &mut saved.state);
+        let rows = self.history.copy(self.edge, &saved.history);
         let input = self.input.copy(self.edge, events);
         let output = self.output.copy(self.edge, lines);
         let refusal = proved::run(&mut parts, rows, input, output);
-        state.parts().copy_from(&parts);
-        history.copy_from_slice(rows);
+        saved.state.parts().copy_from(&parts);
+        saved.history.copy_from_slice(rows);
         events.copy_from_slice(input);
         lines.copy_from_slice(output);
         refusal
     }
 
-    pub fn decision(&mut self, state: &mut State, history: &mut [u32]) -> Line {
-        let mut parts = self.state.copy(self.edge, state);
-        let rows = self.history.copy(self.edge, history);
+    pub fn decision(&mut self, saved: &mut Saved) -> Line {
+        let mut parts = self.state.copy(self.edge, &mut saved.state);
+        let rows = self.history.copy(self.edge, &saved.history);
         let line = proved::decision(&mut parts, rows);
-        state.parts().copy_from(&parts);
-        history.copy_from_slice(rows);
+        saved.state.parts().copy_from(&parts);
+        saved.history.copy_from_slice(rows);
         line
     }
 
-    pub fn remaining(
-        &mut self,
-        state: &mut State,
-        history: &mut [u32],
-        partition: u32,
-        out: &mut u32,
-    ) -> u32 {
-        let mut parts = self.state.copy(self.edge, state);
-        let rows = self.history.copy(self.edge, history);
+    pub fn remaining(&mut self, saved: &mut Saved, partition: u32, out: &mut u32) -> u32 {
+        let mut parts = self.state.copy(self.edge, &mut saved.state);
+        let rows = self.history.copy(self.edge, &saved.history);
         let word = self.remaining.array(self.edge);
         *word = [*out];
         let refusal = proved::remaining(&mut parts, rows, partition, word);
-        state.parts().copy_from(&parts);
-        history.copy_from_slice(rows);
+        saved.state.parts().copy_from(&parts);
+        saved.history.copy_from_slice(rows);
         [*out] = *word;
         refusal
     }

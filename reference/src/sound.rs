@@ -3,9 +3,10 @@
 //! may change; this is what the proved doors' answers are compared with.
 
 use crate::proved::{Settings, State};
+use crate::states::Saved;
 
 /// 7, 8 or 0 for a state beside a history.
-pub fn refused(state: &State, history: &[u32]) -> u8 {
+pub fn refused(Saved { state, history }: &Saved) -> u8 {
     let settings = &state.settings;
     if !within_limits(settings) {
         return 8;

@@ -1,4 +1,4 @@
-//! Between what a scheduler keeps and the struct that the proved one is lent.
+//! Between what a scheduler keeps and what the proved one is lent.
 
 use crate::proved::{Settings, State};
 use reference::plain::Plain;
@@ -32,8 +32,37 @@ pub fn wanted(given: &reference::Settings) -> usize {
     given.partitions * given.window.0 as usize
 }
 
+/// A state and its history.
+#[derive(Clone, PartialEq, Eq)]
+pub struct Saved {
+    pub state: State,
+    pub history: Vec<u32>,
+}
+
+impl Saved {
+    /// With this byte everywhere.
+    pub fn filled(byte: u8, numbers: usize) -> Saved {
+        Saved {
+            state: State::filled(byte),
+            history: vec![u32::from_ne_bytes([byte; 4]); numbers],
+        }
+    }
+
+    /// Takes over what a scheduler keeps. Numbers after the rows stay.
+    pub fn set(&mut self, kept: &impl Kept) {
+        self.state = state(kept);
+        let window = kept.settings().window.0 as usize;
+        let rows = self.history.chunks_exact_mut(window);
+        for (p, row) in rows.take(kept.settings().partitions).enumerate() {
+            for (slot, number) in row.iter_mut().enumerate() {
+                *number = kept.in_slot(p, slot).0;
+            }
+        }
+    }
+}
+
 /// The state that a scheduler is in.
-pub fn state(kept: &impl Kept) -> State {
+fn state(kept: &impl Kept) -> State {
     let mut state = State {
         settings: settings(kept.settings()),
         used: [0; 16],
@@ -68,19 +97,8 @@ pub fn state(kept: &impl Kept) -> State {
     state
 }
 
-/// Writes a scheduler's rows, and nothing after them.
-pub fn write_rows(kept: &impl Kept, history: &mut [u32]) {
-    let window = kept.settings().window.0 as usize;
-    let rows = history.chunks_exact_mut(window);
-    for (p, row) in rows.take(kept.settings().partitions).enumerate() {
-        for (slot, number) in row.iter_mut().enumerate() {
-            *number = kept.in_slot(p, slot).0;
-        }
-    }
-}
-
 /// The plain scheduler in a sound state.
-pub fn plain(state: &State, history: &[u32]) -> Plain {
+pub fn plain(Saved { state, history }: &Saved) -> Plain {
     let settings = of_settings(&state.settings);
     let mut plain = Plain::new(&settings);
     plain.history = history[..wanted(&settings)]
