@@ -13,8 +13,10 @@
  * - the history, `count * window` numbers or more: partition p's row is the `window` numbers from place p * window, and what stands after the last
  *   row is never touched.
  *
- * Both together are what was saved when they are written to a file, and restored when they are read back. Beside them a file has to hold
- * SAPLINGLOFT_VERSION and the state's size, because the state itself tells neither; examples/embed.c shows it.
+ * Both together can be written to a file and read back later. Beside them a file has to hold SAPLINGLOFT_VERSION and the state's size, because the
+ * state itself tells neither; examples/embed.c shows it. Numbers lie in it as the processor has them, so a file is for processors of one byte order.
+ *
+ * Sizes: the state has 552 bytes, the history 4 * count * window, which is at most 25,600. tools/stack.c measures the stack that each call takes.
  *
  * Refusals: no call asks anything of the numbers that it is given. Whatever the state, the history, the sheet and the event say, it does its work or
  * answers with the number of a refusal, and a refused call leaves everything that it was lent as it was. What a call does ask for is this:
