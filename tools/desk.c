@@ -2,8 +2,8 @@
  *
  *     desk SHEET < EVENTS
  *
- * Prints the lines of runs of a few records. The same events go to a second state one by one, with decision and remaining asked after each: all have to
- * agree, or it says what does not and ends with 1. */
+ * Prints the lines of runs of a few records. The same events go to a second state one by one, with decision and remaining asked after each: all
+ * have to agree, or it says what does not and ends with 1. */
 #include "saplingloft.h"
 
 #include <stdio.h>

@@ -1,8 +1,8 @@
 /* The stack that each call takes at most, measured by running: bytes below the caller's frame, with the call's arguments and its return address.
  *
- * A call is made on a stack of its own that was painted before, and what is no longer painted afterwards was used; what an empty function uses there is
- * taken off. The states are the smallest and the largest that there are, under both policies, the events of every kind, accepted and refused. Each call
- * is made once before it is measured, because the first one may have the system's linker look for a function. */
+ * A call is made on a stack of its own that was painted before, and what is no longer painted afterwards was used; what an empty function uses
+ * there is taken off. The states are a small one and one of the largest sheet, under both policies, the events of every kind, accepted and refused.
+ * Each call is made once before it is measured, because the first one may have the system's linker look for a function. */
 #define _XOPEN_SOURCE 700 /* ucontext.h */
 #include "saplingloft.h"
 
