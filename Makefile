@@ -1,6 +1,6 @@
 # `make run` does the main job on the example day, `make dist` packs the programs and tools for a laptop, `make test` runs every check, `make bench`
-# measures (it is no test).
-.PHONY: run dist test bench
+# measures (it is no test), `make install PREFIX=FOLDER` puts the C library, its header and a pkg-config file into a folder.
+.PHONY: run dist test bench install
 
 run:
 	@tools/run
@@ -13,3 +13,6 @@ test:
 
 bench:
 	@tools/bench
+
+install:
+	@PREFIX='$(PREFIX)' DESTDIR='$(DESTDIR)' tools/install

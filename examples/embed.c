@@ -1,106 +1,98 @@
-/* The scheduler inside another program, as a kernel would have it: a state of our own, a history of our own, and a call for each event.
+/* The scheduler inside a kernel: memory of the kernel's own, a call for each thing that happens, and a file that the state is saved to.
  *
- *     embed                      the worked run of document 01, whose sheet and events stand below
- *     embed SHEET < EVENTS       a sheet's file, and event records from standard input
+ *     embed FILE
  *
- * Each answer is printed as a line of the desk program: refusal, mode, partition, thread. */
+ * does the worked run of document 01, on the way saves it to FILE and goes on from there, and at the end damages FILE, which is then refused. Each
+ * answer is printed as a line of the desk program: refusal, mode, partition, thread. */
 #include "saplingloft.h"
 
 #include <stdio.h>
 
-/* The scheduler's whole memory. */
-static struct sapling_state state;
-static uint32_t history[SAPLING_HISTORY];
+static const char sheet[] = "W 00 000004\n"
+                            "C 00 001000\n"
+                            "P 00 000000\n"
+                            "M 00 000000\n"
+                            "S 00 000050\n"
+                            "S 01 000050\n";
 
-static void print(struct sapling_numbers n)
-{
-    printf("%02d %d %02d %03d\n", n.refusal, n.mode, n.partition, n.thread);
-}
+enum { HISTORY = 2 * 4 }; /* two partitions, a window of four ticks */
 
-/* A start, and then an event at a time on the state that the last one left. */
-static uint8_t begin(const uint8_t *sheet, size_t length)
-{
-    struct sapling_opening opening = sapling_start(sheet, length, history, SAPLING_HISTORY);
-    state = opening.state;
-    return opening.refusal;
-}
-
-static struct sapling_numbers tell(const uint8_t *event, size_t length)
-{
-    struct sapling_reply reply = sapling_event(state, history, SAPLING_HISTORY, event, length);
-    state = reply.state;
-    return reply.numbers;
-}
-
-/* ---- the worked run */
-
-static const char worked_sheet[] = "W 00 000004\n"
-                                   "C 00 001000\n"
-                                   "P 00 000000\n"
-                                   "M 00 000000\n"
-                                   "S 00 000050\n"
-                                   "S 01 000050\n";
-
-struct happening {
-    uint8_t kind, thread, partition, priority;
-    uint32_t stamp;
-    uint8_t mask;
+/* What the kernel keeps of the scheduler, in memory and in a file: the state and the history, and beside them what they do not tell themselves. */
+struct saved {
+    uint32_t version;
+    uint32_t size;
+    struct saplingloft_state state;
+    uint32_t history[HISTORY];
 };
 
-static const struct happening worked_events[] = {
-    { 2, 0, 0, 10, 0, 1 }, /* create thread 0 in partition 0, priority 10 */
-    { 2, 1, 1, 20, 0, 1 }, /* create thread 1 in partition 1, priority 20 */
-    { 3, 0, 0, 0, 0, 0 },  /* ready 0 */
-    { 3, 1, 0, 0, 0, 0 },  /* ready 1 */
-    { 1, 0, 0, 0, 1000, 0 }, { 1, 0, 0, 0, 2000, 0 }, { 1, 0, 0, 0, 3000, 0 }, { 1, 0, 0, 0, 4000, 0 }, /* ticks */
-    { 3, 1, 0, 0, 4500, 0 }, /* ready 1, which is ready: refused */
-    { 1, 0, 0, 0, 7000, 0 }, /* a tick that comes too late: refused */
-};
-
-static void encode(struct happening h, uint8_t event[SAPLING_RECORD])
+/* A fresh start. */
+static enum saplingloft_refusal start(struct saved *kept)
 {
-    const uint8_t bytes[SAPLING_RECORD] = {
-        h.kind, h.thread, h.partition, h.priority, h.stamp & 255, h.stamp >> 8 & 255, h.stamp >> 16 & 255, h.stamp >> 24, h.mask,
-    };
-    for (int i = 0; i < SAPLING_RECORD; i++)
-        event[i] = bytes[i];
+    kept->version = SAPLINGLOFT_VERSION;
+    kept->size = sizeof kept->state;
+    return saplingloft_start(&kept->state, kept->history, HISTORY, (const uint8_t *)sheet, sizeof sheet - 1);
 }
 
-static int worked_run(void)
+/* Something happened: the answer says which thread runs from now on. */
+static void tell(struct saved *kept, const struct saplingloft_record *record)
 {
-    if (begin((const uint8_t *)worked_sheet, sizeof worked_sheet - 1) != 0)
-        return 1;
-    for (size_t i = 0; i < sizeof worked_events / sizeof *worked_events; i++) {
-        uint8_t event[SAPLING_RECORD];
-        encode(worked_events[i], event);
-        print(tell(event, sizeof event));
-    }
-    return 0;
+    uint8_t event[SAPLINGLOFT_RECORD];
+    saplingloft_encode(record, event);
+    struct saplingloft_answer answer = saplingloft_event(&kept->state, kept->history, HISTORY, event, sizeof event);
+    printf("%02d %d %02d %03d\n", answer.refusal, answer.mode, answer.partition, answer.thread);
 }
 
-/* ---- a sheet and events from files */
-
-static int run_of(const char *name)
+static int save(const struct saved *kept, const char *name)
 {
-    uint8_t sheet[21 * SAPLING_RECORD]; /* one record more than a sheet may have: a longer file is refused too */
-    uint8_t event[SAPLING_RECORD];
-    size_t length = 0;
+    FILE *file = fopen(name, "wb");
+    if (file == NULL)
+        return 0;
+    size_t written = fwrite(kept, sizeof *kept, 1, file);
+    return fclose(file) == 0 && written == 1;
+}
+
+/* What was saved, if it is of this version and of one piece. The decision door tells, and says which thread is to run. */
+static int restore(struct saved *kept, const char *name)
+{
     FILE *file = fopen(name, "rb");
-    if (file != NULL) {
-        length = fread(sheet, 1, sizeof sheet, file);
-        fclose(file);
-    }
-    struct sapling_numbers refused = { .refusal = begin(sheet, length) };
-    if (refused.refusal != 0) {
-        print(refused);
+    if (file == NULL)
+        return 0;
+    size_t read = fread(kept, sizeof *kept, 1, file);
+    fclose(file);
+    if (read != 1 || kept->version != SAPLINGLOFT_VERSION || kept->size != sizeof kept->state) {
+        printf("not a state of version %d\n", SAPLINGLOFT_VERSION);
         return 0;
     }
-    while ((length = fread(event, 1, sizeof event, stdin)) > 0)
-        print(tell(event, length));
-    return 0;
+    struct saplingloft_answer answer = saplingloft_decision(&kept->state, kept->history, HISTORY);
+    if (answer.refusal != SAPLINGLOFT_ACCEPTED)
+        printf("not restored: %s\n", saplingloft_sentence(answer.refusal));
+    return answer.refusal == SAPLINGLOFT_ACCEPTED;
 }
+
+/* kind, thread, partition, priority, stamp, mask */
+static const struct saplingloft_record before[] = {
+    { SAPLINGLOFT_KIND_CREATE, 0, 0, 10, 0, 1 }, { SAPLINGLOFT_KIND_CREATE, 1, 1, 20, 0, 1 },  { SAPLINGLOFT_KIND_READY, 0, 0, 0, 0, 0 },
+    { SAPLINGLOFT_KIND_READY, 1, 0, 0, 0, 0 },   { SAPLINGLOFT_KIND_TICK, 0, 0, 0, 1000, 0 }, { SAPLINGLOFT_KIND_TICK, 0, 0, 0, 2000, 0 },
+};
+static const struct saplingloft_record after[] = {
+    { SAPLINGLOFT_KIND_TICK, 0, 0, 0, 3000, 0 },
+    { SAPLINGLOFT_KIND_TICK, 0, 0, 0, 4000, 0 },
+    { SAPLINGLOFT_KIND_READY, 1, 0, 0, 4500, 0 }, /* refused: it is ready */
+    { SAPLINGLOFT_KIND_TICK, 0, 0, 0, 7000, 0 },  /* refused: it comes too late */
+};
 
 int main(int count, char **words)
 {
-    return count > 1 ? run_of(words[1]) : worked_run();
+    struct saved kept, restored;
+    if (count != 2 || start(&kept) != SAPLINGLOFT_ACCEPTED)
+        return 1;
+    for (size_t i = 0; i < sizeof before / sizeof *before; i++)
+        tell(&kept, &before[i]);
+    if (!save(&kept, words[1]) || !restore(&restored, words[1]))
+        return 1;
+    for (size_t i = 0; i < sizeof after / sizeof *after; i++)
+        tell(&restored, &after[i]);
+
+    restored.state.used[0] += 1; /* as a bad file might have it */
+    return !save(&restored, words[1]) || restore(&kept, words[1]);
 }

@@ -1,134 +1,309 @@
-/* The scheduler for one core, for programs in C. Link libembed.a, which `rt staticlib embed` writes to target/staticlib.
+/* Saplingloft: the scheduler for one core, for programs in C11 and C++17.
  *
- * The scheduler keeps nothing. Its state is a struct that the caller keeps, and the history is memory that the caller lends: `count * window`
- * numbers, or more, of which partition p's row is the `window` numbers from place p * window. A call takes a state by value and answers the
- * next one; it reads and writes lent memory only while it runs, allocates nothing and calls nothing but memcpy and memset.
+ * Compile and link, with the library installed by `make install PREFIX=...`, or from the repository after `rt staticlib saplingloft`:
  *
- * No call asks anything of the numbers that it is given: whatever the state, the history, the sheet and the event say, it does its work or
- * answers with the number of a refusal, and a refusal leaves the state and all lent memory as they were. What a call does ask for is this:
- * - a pointer is not NULL, also where its length is 0, is aligned for what it points to, and is valid for its length;
- * - lent memory that is written (history, lines) overlaps nothing else that the call is given, and nobody else touches it meanwhile;
- * - `exists` and `ready` hold 0 or 1, as every bool does in C.
+ *     cc -std=c11 -O2 kernel.c $(pkg-config --cflags --libs saplingloft)
+ *     cc -std=c11 -O2 -Iinclude kernel.c target/staticlib/libsaplingloft.a
  *
- *  refusal
- *   0  none
- *   1  sheet not 5 to 20 whole records
- *   2  sheet: letter, order, digit, space, line feed or two-digit number wrong
- *   3  sheet: W out of limits, 2 to 400
- *   4  sheet: C out of limits, a multiple of 100 from 100 to 999,900
- *   5  sheet: P or M out of limits, 0 to 1 and 0 to 7
- *   6  sheet: shares do not add up to 100
- *   7  history too short
- *   8  state not sound
- *   9  event: unknown kind, or an unused byte not zero
- *  10  event: more than 2 * C since the last tick
- *  11  event: thread above 63; create of one that exists; kinds 3 to 6 on one that does not
- *  12  event: partition not below the count; create with mask 0
- *  13  event: ready of a ready thread, block of one not ready
- *  14  event not twelve bytes
- */
+ * Target: the archive is for x86-64 Linux. The interface is alike on every processor: the library's own functions, at the end, take pointers to
+ * arrays of numbers, numbers of 32 bits and lengths of 64, and answer a number of 32 bits.
+ *
+ * Memory: the library keeps nothing and allocates nothing. What there is, the caller keeps, and lends to each call, which works on it where it lies:
+ * - the state, a struct saplingloft_state;
+ * - the history, `count * window` numbers or more: partition p's row is the `window` numbers from place p * window, and what stands after the last
+ *   row is never touched.
+ *
+ * Both together can be written to a file and read back later. Beside them a file has to hold SAPLINGLOFT_VERSION and the state's size, because the
+ * state itself tells neither; examples/embed.c shows it. Numbers lie in it as the processor has them, so a file is for processors of one byte order.
+ *
+ * Sizes: the state has 552 bytes, the history 4 * count * window, which is at most 25,600. tools/stack.c measures the stack that each call takes.
+ *
+ * Refusals: no call asks anything of the numbers that it is given. Whatever the state, the history, the sheet and the event say, it does its work or
+ * answers with the number of a refusal, and a refused call leaves everything that it was lent as it was. What a call does ask for is this:
+ * - a pointer is not NULL, also where its length is 0; it is aligned for what it points to and valid for its length;
+ * - what a call may write overlaps nothing else that it is given, and nobody else touches what it is given meanwhile. */
 #ifndef SAPLINGLOFT_H
 #define SAPLINGLOFT_H
 
-#include <stdbool.h>
 #include <stddef.h>
 #include <stdint.h>
+
+/* Of the state and of the calls. Another number means that a saved state of this one cannot be used. */
+#define SAPLINGLOFT_VERSION 1
+
+enum {
+    SAPLINGLOFT_PARTITIONS = 16,
+    SAPLINGLOFT_THREADS = 64,
+    SAPLINGLOFT_RECORD = 12,    /* bytes of a sheet's record, of an event's record and of a line */
+    SAPLINGLOFT_SHEET = 240,    /* bytes of the longest sheet */
+    SAPLINGLOFT_HISTORY = 6400, /* numbers of history that suffice for every sheet: 16 partitions, a window of 400 ticks */
+    SAPLINGLOFT_IDLE = 255      /* the running thread where none runs */
+};
+
+/* What comes back when something cannot be done; saplingloft_sentence says what each means. */
+enum saplingloft_refusal {
+    SAPLINGLOFT_ACCEPTED = 0,
+    SAPLINGLOFT_REFUSED_RECORDS = 1,
+    SAPLINGLOFT_REFUSED_FORM = 2,
+    SAPLINGLOFT_REFUSED_WINDOW = 3,
+    SAPLINGLOFT_REFUSED_TICK = 4,
+    SAPLINGLOFT_REFUSED_POLICY_OR_CORE = 5,
+    SAPLINGLOFT_REFUSED_SHARES = 6,
+    SAPLINGLOFT_REFUSED_BUFFER = 7,
+    SAPLINGLOFT_REFUSED_STATE = 8,
+    SAPLINGLOFT_REFUSED_KIND = 9,
+    SAPLINGLOFT_REFUSED_ELAPSED = 10,
+    SAPLINGLOFT_REFUSED_THREAD = 11,
+    SAPLINGLOFT_REFUSED_PARTITION = 12,
+    SAPLINGLOFT_REFUSED_READINESS = 13,
+    SAPLINGLOFT_REFUSED_LENGTH = 14
+};
+
+/* How a decision was made. A partition competes while one of its ready threads may run on this core; it has budget while at least a quarter of a tick
+ * remains of its budget. */
+enum saplingloft_mode {
+    SAPLINGLOFT_MODE_IDLE = 0,      /* no partition competes */
+    SAPLINGLOFT_MODE_FREE_TIME = 1, /* some partition with a share does not compete */
+    SAPLINGLOFT_MODE_UNDERLOAD = 2, /* all with a share compete, and some competing partition has budget */
+    SAPLINGLOFT_MODE_AT_LIMIT = 3   /* all with a share compete, and no competing partition has budget */
+};
+
+/* What an event tells. */
+enum saplingloft_kind {
+    SAPLINGLOFT_KIND_TICK = 1,
+    SAPLINGLOFT_KIND_CREATE = 2,
+    SAPLINGLOFT_KIND_READY = 3,
+    SAPLINGLOFT_KIND_BLOCK = 4,
+    SAPLINGLOFT_KIND_SET_PRIORITY = 5,
+    SAPLINGLOFT_KIND_END = 6,
+    SAPLINGLOFT_KIND_RESUME = 7
+};
+
+/* ---- What the caller keeps. The numbers in front are offsets: there is no padding, so each byte of the structs is a byte of some number. */
+
+/* What a sheet says. 84 bytes. */
+struct saplingloft_settings {
+    /*  0 */ uint32_t window;                         /* W, in ticks */
+    /*  4 */ uint32_t tick;                           /* C, in cycles */
+    /*  8 */ uint32_t policy;                         /* P: 0 default, 1 ratio */
+    /* 12 */ uint32_t core;                           /* M */
+    /* 16 */ uint32_t count;                          /* how many partitions there are */
+    /* 20 */ uint32_t shares[SAPLINGLOFT_PARTITIONS]; /* S, in percent; 0 past the last partition */
+};
+
+/* The state on one core. 552 bytes, aligned to 4. Thread t is place t of the arrays; all five are 0 there if it does not exist. */
+struct saplingloft_state {
+    /*   0 */ struct saplingloft_settings settings;
+    /*  84 */ uint32_t used[SAPLINGLOFT_PARTITIONS];    /* cycles charged to each partition in the window; 0 past the last */
+    /* 148 */ uint32_t stamp;                           /* of the last accepted event */
+    /* 152 */ uint32_t slot;                            /* the history's current slot */
+    /* 156 */ uint32_t since;                           /* cycles since the last tick */
+    /* 160 */ uint32_t queued;                          /* how many threads are ready */
+    /* 164 */ uint32_t running;                         /* the running thread, or SAPLINGLOFT_IDLE */
+    /* 168 */ uint8_t exists[SAPLINGLOFT_THREADS];      /* 0 or 1 */
+    /* 232 */ uint8_t ready[SAPLINGLOFT_THREADS];       /* 0 or 1 */
+    /* 296 */ uint8_t partitions[SAPLINGLOFT_THREADS];
+    /* 360 */ uint8_t priorities[SAPLINGLOFT_THREADS];  /* 255 is highest */
+    /* 424 */ uint8_t masks[SAPLINGLOFT_THREADS];       /* bit m is set where core m may run the thread */
+    /* 488 */ uint8_t queue[SAPLINGLOFT_THREADS];       /* the ready threads in order of becoming ready, then zeros */
+};
+
+#ifdef __cplusplus
+static_assert(sizeof(struct saplingloft_state) == 552, "the state has no padding");
+#else
+_Static_assert(sizeof(struct saplingloft_state) == 552, "the state has no padding");
+#endif
+
+/* ---- What calls answer. Beside a refusal the other numbers are 0. */
+
+struct saplingloft_answer {
+    enum saplingloft_refusal refusal;
+    enum saplingloft_mode mode;
+    uint8_t partition; /* the one that won, 0 while idle */
+    uint8_t thread;    /* the one that runs, SAPLINGLOFT_IDLE while idle */
+};
+
+struct saplingloft_progress {
+    enum saplingloft_refusal refusal;
+    size_t taken; /* records */
+};
+
+struct saplingloft_balance {
+    enum saplingloft_refusal refusal;
+    int32_t remaining; /* cycles; below zero after an overrun */
+};
+
+struct saplingloft_written {
+    enum saplingloft_refusal refusal;
+    size_t length; /* bytes */
+};
+
+/* ---- The library's own functions. Programs in C and C++ have the inline functions below, which take a state's address and pass those of its parts:
+ * settings: window, tick, policy, core, count. clock: stamp, slot, since, queued, running. remaining: one number, in two's complement.
+ * Each answers the refusal, or 0; but event and decision answer refusal + 256 * mode + 65536 * partition + 16777216 * thread. */
 
 #ifdef __cplusplus
 extern "C" {
 #endif
 
-enum {
-    SAPLING_PARTITIONS = 16,
-    SAPLING_THREADS = 64,
-    SAPLING_RECORD = 12,   /* bytes of a sheet's record, of an event and of a line */
-    SAPLING_IDLE = 255,    /* the running thread where none runs */
-    SAPLING_HISTORY = 6400 /* numbers of history that suffice for every sheet: 16 partitions, a window of 400 ticks */
-};
-
-/* A thread; all zero where it does not exist. 5 bytes. */
-struct sapling_thread {
-    bool exists;       /*  0 */
-    bool ready;        /*  1 */
-    uint8_t partition; /*  2 */
-    uint8_t priority;  /*  3: 255 is highest */
-    uint8_t mask;      /*  4: bit m is set where core m may run the thread */
-};
-
-/* What the sheet says. 76 bytes. */
-struct sapling_settings {
-    uint32_t window;                     /*  0: W, in ticks */
-    uint32_t tick;                       /*  4: C, in cycles */
-    uint8_t policy;                      /*  8: P, 0 default, 1 ratio */
-    uint8_t core;                        /*  9: M */
-    uint8_t count;                       /* 10: how many partitions there are; a byte of padding follows */
-    uint32_t shares[SAPLING_PARTITIONS]; /* 12: S, in percent; 0 past the last partition */
-};
-
-/* The state on one core. 540 bytes, aligned to 4. */
-struct sapling_state {
-    struct sapling_settings settings;               /*   0 */
-    uint32_t used[SAPLING_PARTITIONS];              /*  76: cycles charged to each partition in the window */
-    uint32_t stamp;                                 /* 140: of the last accepted event */
-    uint32_t slot;                                  /* 144: the history's current slot */
-    uint32_t since;                                 /* 148: cycles since the last tick */
-    struct sapling_thread threads[SAPLING_THREADS]; /* 152 */
-    uint8_t queue[SAPLING_THREADS];                 /* 472: ready threads in order of becoming ready, then zeros */
-    uint8_t queued;                                 /* 536: how many */
-    uint8_t running;                                /* 537: the running thread, or SAPLING_IDLE; two bytes of padding follow */
-};
-
-/* What start answers: the fresh state, or zeros beside a refusal. 544 bytes. */
-struct sapling_opening {
-    uint8_t refusal;            /* 0 */
-    struct sapling_state state; /* 4 */
-};
-
-/* The four numbers of an answer; beside a refusal the others are 0. 4 bytes. */
-struct sapling_numbers {
-    uint8_t refusal;   /* 0 */
-    uint8_t mode;      /* 1: 0 idle, 1 free time, 2 underload, 3 at limit */
-    uint8_t partition; /* 2: the one that won, 0 while idle */
-    uint8_t thread;    /* 3: the one that runs, SAPLING_IDLE while idle */
-};
-
-/* What an event is answered: the decision or the refusal, and the state for the next event. 544 bytes. */
-struct sapling_reply {
-    struct sapling_numbers numbers; /* 0 */
-    struct sapling_state state;     /* 4 */
-};
-
-/* What a run answers: how many records were taken, each with its line, and the state after them. 560 bytes, aligned to 8. */
-struct sapling_report {
-    uint8_t refusal;            /*  0: 7 or 8, and then nothing was taken; or 0 */
-    size_t taken;               /*  8 */
-    struct sapling_state state; /* 16 */
-};
-
-/* What a whole run answers. 16 bytes, aligned to 8. */
-struct sapling_service {
-    uint8_t refusal; /* 0: 1 to 7, and then nothing was taken; or 0 */
-    size_t taken;    /* 8 */
-};
-
-/* A fresh start from the bytes of a sheet; the history's rows become zero. The history must have count * window numbers (7). */
-struct sapling_opening sapling_start(const uint8_t *sheet, size_t sheet_length, uint32_t *history, size_t history_length);
-
-/* One event of SAPLING_RECORD bytes. The state is tested for soundness first, which reads the whole of the history's rows. */
-struct sapling_reply sapling_event(struct sapling_state state, uint32_t *history, size_t history_length, const uint8_t *event,
-                                   size_t event_length);
-
-/* Many events, one record after the other, each with a line of SAPLING_RECORD bytes. The state is tested once. A cut last record gets its
- * line too (14). Only as many records are taken as there is room for lines. */
-struct sapling_report sapling_run(struct sapling_state state, uint32_t *history, size_t history_length, const uint8_t *events,
-                                  size_t events_length, uint8_t *lines, size_t lines_length);
-
-/* A start and a run in one. A refused start writes its one line, where there is room for it, and takes nothing. */
-struct sapling_service sapling_desk(const uint8_t *sheet, size_t sheet_length, uint32_t *history, size_t history_length,
-                                    const uint8_t *events, size_t events_length, uint8_t *lines, size_t lines_length);
+uint32_t saplingloft_lent_start(const uint8_t *sheet, uint64_t sheet_length, uint32_t *settings, uint32_t *shares, uint32_t *used, uint32_t *clock,
+                                uint8_t *exists, uint8_t *ready, uint8_t *partitions, uint8_t *priorities, uint8_t *masks, uint8_t *queue,
+                                uint32_t *history, uint64_t history_length);
+uint32_t saplingloft_lent_event(const uint32_t *settings, const uint32_t *shares, uint32_t *used, uint32_t *clock, uint8_t *exists, uint8_t *ready,
+                                uint8_t *partitions, uint8_t *priorities, uint8_t *masks, uint8_t *queue, uint32_t *history,
+                                uint64_t history_length, const uint8_t *event, uint64_t event_length);
+uint32_t saplingloft_lent_run(const uint32_t *settings, const uint32_t *shares, uint32_t *used, uint32_t *clock, uint8_t *exists, uint8_t *ready,
+                              uint8_t *partitions, uint8_t *priorities, uint8_t *masks, uint8_t *queue, uint32_t *history, uint64_t history_length,
+                              const uint8_t *events, uint64_t events_length, uint8_t *lines, uint64_t lines_length);
+uint32_t saplingloft_lent_decision(const uint32_t *settings, const uint32_t *shares, const uint32_t *used, const uint32_t *clock,
+                                   const uint8_t *exists, const uint8_t *ready, const uint8_t *partitions, const uint8_t *priorities,
+                                   const uint8_t *masks, const uint8_t *queue, const uint32_t *history, uint64_t history_length);
+uint32_t saplingloft_lent_remaining(const uint32_t *settings, const uint32_t *shares, const uint32_t *used, const uint32_t *clock,
+                                    const uint8_t *exists, const uint8_t *ready, const uint8_t *partitions, const uint8_t *priorities,
+                                    const uint8_t *masks, const uint8_t *queue, const uint32_t *history, uint64_t history_length,
+                                    uint32_t partition, uint32_t *remaining);
+uint32_t saplingloft_lent_read_sheet(const uint8_t *sheet, uint64_t sheet_length, uint32_t *settings, uint32_t *shares);
+uint32_t saplingloft_lent_write_sheet(const uint32_t *settings, const uint32_t *shares, uint8_t *sheet, uint64_t sheet_length);
 
 #ifdef __cplusplus
 }
 #endif
+
+#define SAPLINGLOFT_PARTS(state)                                                                                                               \
+    &(state)->settings.window, (state)->settings.shares, (state)->used, &(state)->stamp, (state)->exists, (state)->ready, (state)->partitions, \
+        (state)->priorities, (state)->masks, (state)->queue
+
+/* The four numbers that a number holds. */
+static inline struct saplingloft_answer saplingloft_unpack(uint32_t packed)
+{
+    struct saplingloft_answer answer;
+    answer.refusal = (enum saplingloft_refusal)(packed & 255);
+    answer.mode = (enum saplingloft_mode)(packed >> 8 & 255);
+    answer.partition = (uint8_t)(packed >> 16 & 255);
+    answer.thread = (uint8_t)(packed >> 24);
+    return answer;
+}
+
+/* ---- The calls. Lengths are in elements: bytes of a sheet, events or lines, numbers of history. */
+
+/* How much history the settings of a sheet want, in numbers. */
+static inline size_t saplingloft_history(const struct saplingloft_settings *settings)
+{
+    return (size_t)settings->count * settings->window;
+}
+
+/* Reads a sheet into settings (refusals 1 to 6). */
+static inline enum saplingloft_refusal saplingloft_read_sheet(struct saplingloft_settings *settings, const uint8_t *sheet, size_t sheet_length)
+{
+    return (enum saplingloft_refusal)saplingloft_lent_read_sheet(sheet, sheet_length, &settings->window, settings->shares);
+}
+
+/* Writes settings as a sheet, 12 * (4 + count) bytes, and answers how many that were (refusals 1, 3 to 7). */
+static inline struct saplingloft_written saplingloft_write_sheet(const struct saplingloft_settings *settings, uint8_t *sheet, size_t sheet_length)
+{
+    struct saplingloft_written written;
+    written.refusal = (enum saplingloft_refusal)saplingloft_lent_write_sheet(&settings->window, settings->shares, sheet, sheet_length);
+    written.length = written.refusal == SAPLINGLOFT_ACCEPTED ? (size_t)SAPLINGLOFT_RECORD * (4 + settings->count) : 0;
+    return written;
+}
+
+/* A fresh start from the bytes of a sheet (refusals 1 to 7): a state without threads, and rows of zeros, whatever stood in both before. */
+static inline enum saplingloft_refusal saplingloft_start(struct saplingloft_state *state, uint32_t *history, size_t history_length,
+                                                         const uint8_t *sheet, size_t sheet_length)
+{
+    return (enum saplingloft_refusal)saplingloft_lent_start(sheet, sheet_length, SAPLINGLOFT_PARTS(state), history, history_length);
+}
+
+/* One event, and the decision after it (refusals 7 to 14). The state is tested for soundness first, which reads all rows of the history. */
+static inline struct saplingloft_answer saplingloft_event(struct saplingloft_state *state, uint32_t *history, size_t history_length,
+                                                          const uint8_t *event, size_t event_length)
+{
+    return saplingloft_unpack(saplingloft_lent_event(SAPLINGLOFT_PARTS(state), history, history_length, event, event_length));
+}
+
+/* Many events, one record after the other, each answered by a line of the desk program; a cut last record gets its line too (14). The state is tested
+ * once (refusals 7 and 8). As many records are taken as there is room for lines; an event that is refused changes nothing but its line. */
+static inline struct saplingloft_progress saplingloft_run(struct saplingloft_state *state, uint32_t *history, size_t history_length,
+                                                          const uint8_t *events, size_t events_length, uint8_t *lines, size_t lines_length)
+{
+    struct saplingloft_progress progress;
+    size_t records = events_length / SAPLINGLOFT_RECORD + (events_length % SAPLINGLOFT_RECORD != 0);
+    size_t room = lines_length / SAPLINGLOFT_RECORD;
+    progress.refusal = (enum saplingloft_refusal)saplingloft_lent_run(SAPLINGLOFT_PARTS(state), history, history_length, events, events_length,
+                                                                      lines, lines_length);
+    progress.taken = progress.refusal != SAPLINGLOFT_ACCEPTED ? 0 : records < room ? records : room;
+    return progress;
+}
+
+/* The decision that the rules give for a state, which stays as it is (refusals 7 and 8): whether a saved state can be used, and who runs in it. */
+static inline struct saplingloft_answer saplingloft_decision(const struct saplingloft_state *state, const uint32_t *history, size_t history_length)
+{
+    return saplingloft_unpack(saplingloft_lent_decision(SAPLINGLOFT_PARTS(state), history, history_length));
+}
+
+/* What remains of a partition's budget in the window; the state stays as it is (refusals 7, 8 and 12). */
+static inline struct saplingloft_balance saplingloft_remaining(const struct saplingloft_state *state, const uint32_t *history, size_t history_length,
+                                                               uint32_t partition)
+{
+    struct saplingloft_balance balance;
+    uint32_t word = 0;
+    balance.refusal =
+        (enum saplingloft_refusal)saplingloft_lent_remaining(SAPLINGLOFT_PARTS(state), history, history_length, partition, &word);
+    balance.remaining = word <= INT32_MAX ? (int32_t)word : -(int32_t)(UINT32_MAX - word) - 1;
+    return balance;
+}
+
+#undef SAPLINGLOFT_PARTS
+
+/* ---- Records and sentences */
+
+/* What an event's record says. Fields that the kind does not use are 0: a tick and a resume use the stamp alone, a create uses all, the others use
+ * thread and stamp, and a set priority the priority too. */
+struct saplingloft_record {
+    enum saplingloft_kind kind;
+    uint8_t thread;
+    uint8_t partition;
+    uint8_t priority;
+    uint32_t stamp; /* a reading of the cycle counter */
+    uint8_t mask;
+};
+
+/* Writes the twelve bytes of a record. */
+static inline void saplingloft_encode(const struct saplingloft_record *record, uint8_t event[SAPLINGLOFT_RECORD])
+{
+    event[0] = (uint8_t)record->kind;
+    event[1] = record->thread;
+    event[2] = record->partition;
+    event[3] = record->priority;
+    event[4] = (uint8_t)(record->stamp & 255);
+    event[5] = (uint8_t)(record->stamp >> 8 & 255);
+    event[6] = (uint8_t)(record->stamp >> 16 & 255);
+    event[7] = (uint8_t)(record->stamp >> 24);
+    event[8] = record->mask;
+    event[9] = event[10] = event[11] = 0;
+}
+
+/* What a refusal means. */
+static inline const char *saplingloft_sentence(enum saplingloft_refusal refusal)
+{
+    switch (refusal) {
+    case SAPLINGLOFT_ACCEPTED: return "accepted";
+    case SAPLINGLOFT_REFUSED_RECORDS: return "the sheet does not have 5 to 20 whole records, one for each of 1 to 16 partitions among them";
+    case SAPLINGLOFT_REFUSED_FORM: return "a letter, digit, space, line feed or two-digit number of the sheet is wrong, or its order";
+    case SAPLINGLOFT_REFUSED_WINDOW: return "W, the window, is not 2 to 400 ticks";
+    case SAPLINGLOFT_REFUSED_TICK: return "C, the cycles in a tick, is not a multiple of 100 from 100 to 999,900";
+    case SAPLINGLOFT_REFUSED_POLICY_OR_CORE: return "P, the policy, is not 0 or 1, or M, the core, is not 0 to 7";
+    case SAPLINGLOFT_REFUSED_SHARES: return "a share is above 100, or the shares do not add up to 100";
+    case SAPLINGLOFT_REFUSED_BUFFER: return "the lent buffer is too short";
+    case SAPLINGLOFT_REFUSED_STATE: return "the state is not sound";
+    case SAPLINGLOFT_REFUSED_KIND: return "the event's kind is unknown, or a byte that it does not use is not zero";
+    case SAPLINGLOFT_REFUSED_ELAPSED: return "more than two tick periods since the last tick";
+    case SAPLINGLOFT_REFUSED_THREAD: return "the thread is above 63, or is created and exists, or does not exist";
+    case SAPLINGLOFT_REFUSED_PARTITION: return "the partition is not below the count, or a thread is created with mask 0";
+    case SAPLINGLOFT_REFUSED_READINESS: return "a ready thread is made ready, or one that is not ready is blocked";
+    case SAPLINGLOFT_REFUSED_LENGTH: return "the event is not twelve bytes long";
+    }
+    return "no refusal of this library";
+}
 
 #endif

@@ -122,6 +122,16 @@ impl Accounts {
         self.used[p]
     }
 
+    /// The slot now charged.
+    pub fn slot(&self) -> usize {
+        self.now
+    }
+
+    /// What p was charged in a slot.
+    pub fn in_slot(&self, p: usize, slot: usize) -> Cycles {
+        self.slots[slot].charged[p]
+    }
+
     /// What the next tick will take off p's `used`.
     pub fn leaving(&self, p: usize) -> Cycles {
         self.slots[self.next()].charged[p]

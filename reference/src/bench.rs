@@ -10,7 +10,12 @@
 //! is the call, or the calls: one `run` over all records, or an `event` for
 //! each. All rows take their turns, a few batches at a time, so that a slow
 //! while of the machine falls on all of them.
+//!
+//! Built with `--cfg against` it links an archive of commit c0127a0 too, and
+//! takes its single events in turns with the others.
 
+#[cfg(against)]
+mod before;
 mod proved;
 
 use reference::{Line, Scheduler, RECORD};
@@ -23,7 +28,7 @@ const RUN: usize = 2048;
 const EVENTS: usize = 256;
 
 // The reference behind the same kind of boundary as the proved one: a C
-// function, pointers and lengths. It keeps its state to itself.
+// function, pointers, lengths and a number for an answer.
 
 #[inline(never)]
 extern "C" fn reference_run(
@@ -39,23 +44,14 @@ extern "C" fn reference_run(
 }
 
 #[inline(never)]
-extern "C" fn reference_event(
-    scheduler: &mut Scheduler,
-    event: *const u8,
-    n: usize,
-) -> proved::Numbers {
+extern "C" fn reference_event(scheduler: &mut Scheduler, event: *const u8, n: usize) -> u32 {
     let Line {
         refusal,
         mode,
         partition,
         thread,
     } = scheduler.event(unsafe { std::slice::from_raw_parts(event, n) });
-    proved::Numbers {
-        refusal,
-        mode,
-        partition,
-        thread,
-    }
+    u32::from_le_bytes([refusal, mode, partition, thread])
 }
 
 /// A sheet, and the events up to the point that batches start from.
@@ -119,9 +115,12 @@ const NONE: Best = Best(Duration::MAX, Duration::MAX);
 impl Best {
     /// Nanoseconds an event.
     fn each(&self, events: usize) -> (f64, f64) {
-        let each = |time: Duration| time.as_nanos() as f64 / events as f64;
-        (each(self.0), each(self.1))
+        (each(self.0, events), each(self.1, events))
     }
+}
+
+fn each(time: Duration, events: usize) -> f64 {
+    time.as_nanos() as f64 / events as f64
 }
 
 fn timed<T>(best: &mut Duration, work: impl FnOnce() -> T) -> T {
@@ -143,6 +142,8 @@ struct Row {
     scheduler: Scheduler,
     run: Best,
     event: Best,
+    #[cfg(against)]
+    before: (before::Point, Duration),
 }
 
 impl Row {
@@ -151,8 +152,9 @@ impl Row {
         let mut lines = vec![0; lead.len()];
         let mut other = lines.clone();
         let mut history = vec![0; usize::from(partitions) * window as usize];
-        let opening = proved::start(&sheet, &mut history);
-        let state = proved::run(opening.state, &mut history, &lead, &mut lines).state;
+        let mut state = proved::State::filled(0);
+        assert!(proved::start(&sheet, &mut state.parts(), &mut history) == 0);
+        assert!(proved::run(&mut state.parts(), &mut history, &lead, &mut lines) == 0);
         let Ok(mut scheduler) = Scheduler::start(&sheet) else {
             panic!("the sheet is refused");
         };
@@ -162,6 +164,11 @@ impl Row {
             partitions,
             threads,
             window,
+            #[cfg(against)]
+            before: (
+                before::Point::new(&sheet, &lead, history.len(), &lines),
+                Duration::MAX,
+            ),
             batch,
             state,
             history,
@@ -179,10 +186,11 @@ impl Row {
         let singles = &self.batch[..EVENTS * RECORD];
         for _ in 0..batches {
             history.copy_from_slice(&self.history);
-            let report = timed(&mut self.run.0, || {
-                proved::run(black_box(self.state), &mut history, &self.batch, &mut lines)
+            let mut state = self.state;
+            let refusal = timed(&mut self.run.0, || {
+                proved::run(&mut state.parts(), &mut history, &self.batch, &mut lines)
             });
-            assert!(report.refusal == 0 && report.taken == RUN);
+            assert!(refusal == 0);
             let mut scheduler = self.scheduler.clone();
             timed(&mut self.run.1, || {
                 reference_run(
@@ -199,9 +207,7 @@ impl Row {
             let mut state = self.state;
             timed(&mut self.event.0, || {
                 for event in singles.chunks_exact(RECORD) {
-                    let reply = proved::event(state, &mut history, event);
-                    black_box(reply.numbers);
-                    state = reply.state;
+                    black_box(proved::event(&mut state.parts(), &mut history, event));
                 }
             });
             let mut scheduler = self.scheduler.clone();
@@ -210,6 +216,16 @@ impl Row {
                     black_box(reference_event(&mut scheduler, event.as_ptr(), event.len()));
                 }
             });
+            #[cfg(against)]
+            {
+                let (point, best) = &mut self.before;
+                let mut point = point.clone();
+                timed(best, || {
+                    for event in singles.chunks_exact(RECORD) {
+                        black_box(point.event(event));
+                    }
+                });
+            }
         }
     }
 
@@ -226,6 +242,26 @@ impl Row {
             1000.0 / event.0,
             1000.0 / event.1,
             event.1 / event.0,
+        );
+    }
+}
+
+/// Prints the time of a single event beside what it took at c0127a0.
+#[cfg(against)]
+fn against(rows: &[Row]) {
+    println!();
+    println!("Nanoseconds of a single event, and at commit c0127a0:");
+    println!();
+    println!("| partitions | ready threads | W | event | at c0127a0 | part of it |");
+    println!("|---|---|---|---|---|---|");
+    for row in rows {
+        let (now, then) = (row.event.each(EVENTS).0, each(row.before.1, EVENTS));
+        println!(
+            "| {} | {} | {} | {now:.0} | {then:.0} | {:.2} |",
+            row.partitions,
+            row.threads,
+            row.window,
+            now / then
         );
     }
 }
@@ -282,6 +318,8 @@ fn main() {
     for row in &rows[..table] {
         row.print();
     }
+    #[cfg(against)]
+    against(&rows[..table]);
     println!();
     println!("Nanoseconds an event, as one thing grows:");
     grows(

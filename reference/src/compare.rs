@@ -1,35 +1,52 @@
 //! Compares the proved scheduler with the reference, in process, through
-//! the C interface.
+//! all doors of the C interface.
 //!
 //!   compare [count [first]]    fixed cases, then the streams of so many
 //!                              seeds, 20,000 from 0 on if nothing is said
 //!
-//! Every case goes through the whole run, and its lines have to be the
-//! reference's byte for byte. One of eight goes also through single events
-//! and through runs of a few records, on a state that is kept here, and
-//! states damaged on purpose have to be refused as `sound.rs` says. A
-//! difference prints the sheet and the events up to it, and ends with 1.
+//! Every case's sheet is read and written back, and its events go through
+//! one run and through single events, after each of which the whole state
+//! and history have to be the reference's. One of eight goes also through
+//! runs of a few records, with decision and remaining asked after each
+//! event, and on states changed on purpose: what the doors owe there is what
+//! `sound.rs` says, and what the plain scheduler makes of a sound one. All
+//! that is lent lies between fences (`fenced.rs`). A difference prints the
+//! sheet and the events up to it, and ends with 1.
 
+mod damage;
+mod fenced;
 mod fixed;
 mod proved;
 mod sound;
+mod states;
 
-use proved::{Numbers, Service, State};
-use reference::streams::{answer, stream, Case, Reach};
-use reference::{read_sheet, Line, RECORD};
+use fenced::{Edge, Fenced};
+use proved::{Settings, State};
+use reference::plain::Plain;
+use reference::streams::{answer, stream, Case, Random, Reach};
+use reference::{read_sheet, write_sheet, Balance, Kept, Line, Scheduler, RECORD};
+use states::Saved;
 use std::process::ExitCode;
+use std::sync::atomic::{AtomicU64, Ordering};
 use std::time::Instant;
 
-/// Longest history there is, and some numbers behind it.
-const HISTORY: usize = 16 * 400 + 5;
+/// Bytes that the longest lent array may have: the longest streams have
+/// 60,000.
+const ROOM: usize = 100_000;
 /// What stands in lent memory before a call.
-const OLD_NUMBER: u32 = 0xDEAD_BEEF;
 const OLD_BYTE: u8 = 0xA5;
+const OLD_NUMBER: u32 = u32::from_ne_bytes([OLD_BYTE; 4]);
+/// Numbers of history behind the rows.
+const BEHIND: usize = 5;
+/// Of how many states each byte takes all other values, and how long their
+/// history may be, in numbers.
+const THOROUGH: u64 = 24;
+const SHORT: usize = 128;
 
-/// What differs, and in which line if it is a line.
+/// What differs, and at which event if it is one.
 struct Difference {
     what: String,
-    line: Option<usize>,
+    event: Option<usize>,
 }
 
 type Checked = Result<(), Difference>;
@@ -37,7 +54,7 @@ type Checked = Result<(), Difference>;
 fn differs(what: impl Into<String>) -> Difference {
     Difference {
         what: what.into(),
-        line: None,
+        event: None,
     }
 }
 
@@ -45,327 +62,415 @@ fn check(fine: bool, what: &str) -> Checked {
     fine.then_some(()).ok_or_else(|| differs(what))
 }
 
-/// Holds some lines to those of the reference.
-fn same_lines(through: &str, expected: &[u8], lines: &[u8]) -> Checked {
-    if expected == lines {
-        return Ok(());
-    }
-    let place = expected
-        .chunks(RECORD)
-        .zip(lines.chunks(RECORD))
-        .position(|(a, b)| a != b)
-        .unwrap_or(expected.len().min(lines.len()) / RECORD);
-    let at = |lines: &[u8]| {
-        lines.chunks(RECORD).nth(place).map_or_else(
-            || "none".into(),
-            |line| line.trim_ascii_end().escape_ascii().to_string(),
-        )
-    };
-    Err(Difference {
-        what: format!(
-            "line {place} through {through}: {} from the reference, {} from the proved one",
-            at(expected),
-            at(lines)
-        ),
-        line: Some(place),
-    })
+fn same<T: PartialEq + std::fmt::Debug>(what: &str, wanted: &T, found: &T) -> Checked {
+    (wanted == found)
+        .then_some(())
+        .ok_or_else(|| differs(format!("{what}: {wanted:?} is wanted, and not {found:?}")))
 }
 
-/// What is done beside the whole runs.
+/// Holds a state and its history to what they have to be.
+fn same_saved(what: &str, wanted: &Saved, found: &Saved) -> Checked {
+    if wanted == found {
+        return Ok(());
+    }
+    let mut states = [wanted.state, found.state];
+    let [state, other] = states.each_mut().map(|state| &state.bytes()[..]);
+    first_difference(&format!("{what}, byte of the state"), state, other)?;
+    let what = format!("{what}, number of the history");
+    first_difference(&what, &wanted.history, &found.history)
+}
+
+fn first_difference<T: PartialEq + std::fmt::Debug>(
+    what: &str,
+    wanted: &[T],
+    found: &[T],
+) -> Checked {
+    let mut pairs = wanted.iter().zip(found).enumerate();
+    pairs.try_for_each(|(place, (wanted, found))| same(&format!("{what} {place}"), wanted, found))
+}
+
+/// What was done.
 #[derive(Default)]
-struct Beside {
+struct Counts {
     events: u64,
     records: u64,
-    damaged: u64,
+    asked: u64,
+    written: u64,
+    refused: u64,
     sound: u64,
+    flags: u64,
+    thorough: u64,
 }
 
 struct Comparison {
-    random: u64,
-    history: Vec<u32>,
-    lines: Vec<u8>,
+    random: Random,
+    fenced: Fenced,
     reach: Reach,
-    beside: Beside,
+    counts: Counts,
 }
 
 impl Comparison {
     fn new() -> Comparison {
         Comparison {
-            random: 0,
-            history: vec![0; HISTORY],
-            lines: Vec::new(),
+            random: Random::new(0),
+            fenced: Fenced::new(ROOM),
             reach: Reach::default(),
-            beside: Beside::default(),
+            counts: Counts::default(),
         }
     }
 
     /// A number below n.
     fn below(&mut self, n: usize) -> usize {
-        self.random = self.random.wrapping_add(0x9E37_79B9_7F4A_7C15);
-        let mut z = self.random;
-        z = (z ^ z >> 30).wrapping_mul(0xBF58_476D_1CE4_E5B9);
-        z = (z ^ z >> 27).wrapping_mul(0x94D0_49BB_1331_11EB);
-        ((z ^ z >> 31) % n as u64) as usize
+        self.random.below(n as u32) as usize
     }
 
-    fn case(&mut self, case: &Case, expected: &[u8], closely: bool) -> Checked {
-        self.reach.count(case, expected);
-        self.whole(case, expected, expected.len() + 2 * RECORD)?;
+    fn case(&mut self, seed: u64, case: &Case, lines: &[u8], closely: bool) -> Checked {
+        self.random = Random::new(seed);
+        self.fenced.edge = self.random.pick(&[Edge::First, Edge::Last]);
+        self.reach.count(case, lines);
+        let second = Scheduler::start(&case.sheet).ok();
+        self.sheet(case, closely)?;
+        self.start(case, second.as_ref())?;
+        let Some(second) = second else {
+            return Ok(());
+        };
+        self.run(case, &second, lines, lines.len() + 2 * RECORD)?;
+        let last = self.events(case, &second, closely)?;
         if closely {
-            let room = self.below(expected.len() + 1);
-            self.whole(case, expected, room)?;
-            self.events(case, expected)?;
-            self.records(case, expected)?;
+            let room = self.below(lines.len() + 1);
+            self.run(case, &second, lines, room)?;
+            self.records(case, &second, lines)?;
+            self.each_byte(&last, seed % 320 == 0)?;
         }
         Ok(())
     }
 
-    /// From the sheet and the events to lines, in one call, with so much
-    /// room for lines.
-    fn whole(&mut self, case: &Case, expected: &[u8], room: usize) -> Checked {
-        self.history.fill(OLD_NUMBER);
-        self.lines.clear();
-        self.lines.resize(room, OLD_BYTE);
-        let answer = proved::desk(
-            &case.sheet,
-            &mut self.history,
-            &case.events,
-            &mut self.lines,
-        );
-        let whole = expected.len().min(room - room % RECORD);
-        let (lines, rest) = self.lines.split_at(whole);
-        same_lines("the whole run", &expected[..whole], lines)?;
+    /// The sheet read, and written back.
+    fn sheet(&mut self, case: &Case, closely: bool) -> Checked {
+        let mut sheet = case.sheet.clone();
+        let old = State::filled(OLD_BYTE).settings;
+        let mut settings = old;
+        let refusal = self.fenced.read_sheet(&mut sheet, &mut settings);
+        let (told, read) = match read_sheet(&case.sheet) {
+            Ok(read) => (0, states::settings(&read)),
+            Err(number) => (number.into(), old),
+        };
+        same("read sheet", &(told, read), &(refusal, settings))?;
+        check(sheet == case.sheet, "read sheet changed the sheet")?;
+        if told != 0 {
+            return Ok(());
+        }
+        self.written(&read, sheet.len())?;
+        if closely {
+            self.written(&read, sheet.len() - 1)?;
+            let room = self.below(2 * sheet.len());
+            self.written(&read, room)?;
+            for _ in 0..4 {
+                let mut other = read;
+                damage::settings(&mut self.random, &mut other);
+                let room = sheet.len() - RECORD + self.below(3 * RECORD);
+                self.written(&other, room)?;
+            }
+        }
+        Ok(())
+    }
+
+    /// Settings written to so much room.
+    fn written(&mut self, settings: &Settings, room: usize) -> Checked {
+        let mut wanted = vec![OLD_BYTE; room];
+        let mut found = wanted.clone();
+        let mut given = *settings;
+        let told = write_sheet(&states::of_settings(settings), &mut wanted)
+            .err()
+            .unwrap_or(0);
+        let refusal = self.fenced.write_sheet(&mut given, &mut found);
+        same("write sheet", &u32::from(told), &refusal)?;
+        same("what write sheet wrote", &wanted, &found)?;
+        same("what write sheet was given", settings, &given)?;
+        self.reach.refusals[usize::from(told)] += u64::from(told != 0);
+        self.counts.written += 1;
+        Ok(())
+    }
+
+    /// A start, with enough history and with too little.
+    fn start(&mut self, case: &Case, second: Option<&Scheduler>) -> Checked {
+        let mut sheet = case.sheet.clone();
+        let rows = second.map_or(0, |second| states::wanted(second.settings()));
+        let mut found = Saved::filled(OLD_BYTE, rows + BEHIND);
+        let mut wanted = found.clone();
+        let told = match second {
+            Some(second) => {
+                wanted.set(second);
+                0
+            }
+            None => read_sheet(&sheet).err().unwrap_or(0).into(),
+        };
+        let refusal = self.fenced.start(&mut sheet, &mut found);
+        same("start", &told, &refusal)?;
+        same_saved("a start", &wanted, &found)?;
+        if second.is_some() {
+            // One number too few, or any number of them.
+            let any = self.below(rows);
+            let short = self.random.pick(&[rows - 1, any]);
+            let mut found = Saved::filled(OLD_BYTE, short);
+            let wanted = found.clone();
+            let refusal = self.fenced.start(&mut sheet, &mut found);
+            same("start with too short a history", &7, &refusal)?;
+            same_saved("a start with too short a history", &wanted, &found)?;
+            self.reach.refusals[7] += 1;
+        }
+        check(sheet == case.sheet, "start changed the sheet")
+    }
+
+    /// All events in one run, with so much room for lines.
+    fn run(&mut self, case: &Case, second: &Scheduler, lines: &[u8], room: usize) -> Checked {
+        let mut second = second.clone();
+        let mut saved = Saved::filled(OLD_BYTE, states::wanted(second.settings()) + BEHIND);
+        saved.set(&second);
+        let mut wanted = saved.clone();
+        let mut events = case.events.clone();
+        let mut found = vec![OLD_BYTE; room];
+        let refusal = self.fenced.run(&mut saved, &mut events, &mut found);
+        same("run", &0, &refusal)?;
+        let whole = lines.len().min(room - room % RECORD);
+        let (written, rest) = found.split_at(whole);
+        same_lines("the run", &lines[..whole], written)?;
         check(
             rest.iter().all(|&byte| byte == OLD_BYTE),
             "something was written after the lines",
         )?;
-        let (told, rows) = match read_sheet(&case.sheet) {
-            Ok(settings) => {
-                let taken = whole / RECORD;
-                let rows = settings.partitions * settings.window.0 as usize;
-                (Service { refusal: 0, taken }, rows)
-            }
-            Err(refusal) => (Service { refusal, taken: 0 }, 0),
-        };
-        check(answer == told, "the whole run's refusal or its count")?;
-        check(
-            self.history[rows..].iter().all(|&n| n == OLD_NUMBER),
-            "something was written after the history's rows",
-        )
-    }
-
-    /// The state of a start, kept here, and how long its rows are. None for
-    /// a refused sheet.
-    fn start(&mut self, case: &Case) -> Result<Option<(State, usize)>, Difference> {
-        self.history.fill(OLD_NUMBER);
-        let settings = match read_sheet(&case.sheet) {
-            Ok(settings) => settings,
-            Err(number) => {
-                let opening = proved::start(&case.sheet, &mut self.history);
-                check(
-                    opening.refusal == number && opening.state == ZEROS,
-                    "a refused start",
-                )?;
-                check(
-                    self.history.iter().all(|&n| n == OLD_NUMBER),
-                    "a refused start wrote history",
-                )?;
-                return Ok(None);
-            }
-        };
-        let rows = settings.partitions * settings.window.0 as usize;
-        // One number too short, or any number of them.
-        let short = [rows - 1, self.below(rows)][self.below(2)];
-        let opening = proved::start(&case.sheet, &mut self.history[..short]);
-        check(
-            opening.refusal == 7 && opening.state == ZEROS,
-            "a start with too short a history",
-        )?;
-        self.reach.refusals[7] += 1;
-        let opening = proved::start(&case.sheet, &mut self.history);
-        check(opening.refusal == 0, "a start was refused")?;
-        Ok(Some((opening.state, rows)))
-    }
-
-    /// By single events. Now and then the state is damaged, and the door
-    /// has to see it.
-    fn events(&mut self, case: &Case, expected: &[u8]) -> Checked {
-        let Some((mut state, rows)) = self.start(case)? else {
-            return Ok(());
-        };
-        let mut history = std::mem::take(&mut self.history);
-        let mut lines = Vec::with_capacity(expected.len());
-        for event in case.events.chunks(RECORD) {
-            if self.below(16) == 0 {
-                self.damaged(&state, &history[..rows], event)?;
-            }
-            let before = state;
-            let reply = proved::event(state, &mut history[..rows], event);
-            let Numbers {
-                refusal,
-                mode,
-                partition,
-                thread,
-            } = reply.numbers;
-            state = reply.state;
-            if refusal != 0 && state != before {
-                return Err(differs("a refused event changed the state"));
-            }
-            let mut line = [0; RECORD];
-            Line {
-                refusal,
-                mode,
-                partition,
-                thread,
-            }
-            .write(&mut line);
-            lines.extend(line);
-            self.beside.events += 1;
+        check(events == case.events, "run changed the events")?;
+        for event in case.events.chunks(RECORD).take(whole / RECORD) {
+            second.event(event);
         }
-        self.history = history;
-        same_lines("single events", expected, &lines)
+        wanted.set(&second);
+        same_saved("after the run", &wanted, &saved)
     }
 
-    /// By runs of a few records.
-    fn records(&mut self, case: &Case, expected: &[u8]) -> Checked {
-        let Some((mut state, _)) = self.start(case)? else {
-            return Ok(());
-        };
-        let mut lines = vec![OLD_BYTE; expected.len()];
-        let mut at = 0;
-        while at < case.events.len() {
-            let end = case.events.len().min(at + RECORD * (1 + self.below(40)));
-            let events = &case.events[at..end];
-            let report = proved::run(state, &mut self.history, events, &mut lines[at..]);
-            let taken = events.len().div_ceil(RECORD);
-            check(
-                report.refusal == 0 && report.taken == taken,
-                "a run's refusal or its count",
-            )?;
-            state = report.state;
-            at = end;
-            self.beside.records += taken as u64;
+    /// By single events, each followed by a look at the whole state. What
+    /// the last one left comes back.
+    fn events(
+        &mut self,
+        case: &Case,
+        second: &Scheduler,
+        closely: bool,
+    ) -> Result<Saved, Difference> {
+        let mut second = second.clone();
+        let mut saved = Saved::filled(OLD_BYTE, states::wanted(second.settings()));
+        saved.set(&second);
+        let mut wanted = saved.clone();
+        for (place, record) in case.events.chunks(RECORD).enumerate() {
+            let here = |difference| Difference {
+                event: Some(place),
+                ..difference
+            };
+            if closely && self.below(16) == 0 {
+                let mut changed = saved.clone();
+                damage::saved(&mut self.random, &mut changed);
+                self.on_any_state(&changed, record).map_err(here)?;
+            }
+            let mut event = record.to_vec();
+            let line = self.fenced.event(&mut saved, &mut event);
+            let told = second.event(record);
+            same("an event", &told, &line).map_err(here)?;
+            // A refused one leaves what was there before.
+            if told.refusal == 0 {
+                wanted.set(&second);
+            }
+            same_saved("after an event", &wanted, &saved).map_err(here)?;
+            same("an event's bytes", &record, &&event[..]).map_err(here)?;
+            self.counts.events += 1;
+            if closely {
+                self.asked(&second, &mut saved).map_err(here)?;
+                same_saved("after decision and remaining", &wanted, &saved).map_err(here)?;
+            }
         }
-        same_lines("runs of a few records", expected, &lines)
+        Ok(saved)
     }
 
-    /// An event, and a run, on a state and a history with something changed.
-    fn damaged(&mut self, state: &State, history: &[u32], event: &[u8]) -> Checked {
-        let mut state = *state;
-        let mut history = history.to_vec();
-        self.damage(&mut state, &mut history);
-        let refusal = sound::refused(&state, &history);
-        let before = history.clone();
-        let mut lines = [OLD_BYTE; RECORD];
-        if refusal == 0 {
-            // Still sound: both doors have to take it.
-            let reply = proved::event(state, &mut history, event);
-            check(
-                reply.numbers.refusal != 7 && reply.numbers.refusal != 8,
-                "a changed state that is sound was refused",
-            )?;
-            self.beside.sound += 1;
-            return Ok(());
+    /// Decision, and remaining of each partition and of some that are not
+    /// there.
+    fn asked(&mut self, second: &Scheduler, saved: &mut Saved) -> Checked {
+        let decision = self.fenced.decision(saved);
+        same("decision", &second.decision(), &decision)?;
+        let count = second.settings().partitions as u32;
+        for partition in (0..=count).chain([16, 256, 1 << 16, 1 << 31, u32::MAX]) {
+            let told = second.remaining(partition as usize);
+            self.remaining(saved, partition, told)?;
         }
-        let reply = proved::event(state, &mut history, event);
-        let told = Numbers {
-            refusal,
-            mode: 0,
-            partition: 0,
-            thread: 0,
-        };
-        check(reply.numbers == told, "the refusal of a damaged state")?;
-        check(
-            reply.state == state && history == before,
-            "a refusal changed a damaged state or its history",
-        )?;
-        let report = proved::run(state, &mut history, event, &mut lines);
-        check(
-            report.refusal == refusal && report.taken == 0,
-            "a run's refusal of a damaged state",
-        )?;
-        check(
-            report.state == state && history == before && lines == [OLD_BYTE; RECORD],
-            "a refused run changed something",
-        )?;
-        self.reach.refusals[usize::from(refusal)] += 1;
-        self.beside.damaged += 1;
+        self.counts.asked += 1;
         Ok(())
     }
 
-    /// Changes one thing, mostly by little.
-    fn damage(&mut self, state: &mut State, history: &mut Vec<u32>) {
-        let p = self.below(16);
-        let t = self.below(64);
-        let byte = self.below(256) as u8;
-        let by = [1, u32::MAX, 100, 1 << self.below(32)][self.below(4)];
-        let settings = &mut state.settings;
-        let thread = &mut state.threads[t];
-        let place = (self.random >> 20) as usize % history.len();
-        match self.below(24) {
-            0 => settings.window = settings.window.wrapping_add(by),
-            1 => settings.tick = settings.tick.wrapping_add(by),
-            2 => settings.policy = byte,
-            3 => settings.core = byte % 9,
-            4 => settings.count = byte % 18,
-            5 => settings.shares[p] = settings.shares[p].wrapping_add(by),
-            6 => settings.shares.swap(p, 0),
-            7 => state.used[p] = state.used[p].wrapping_add(by),
-            8 => state.stamp = state.stamp.wrapping_add(by),
-            9 => state.slot = state.slot.wrapping_add(by),
-            10 => state.since = state.since.wrapping_add(by),
-            11 => thread.exists = !thread.exists,
-            12 => thread.ready = !thread.ready,
-            13 => thread.partition = byte % 17,
-            14 => thread.priority = byte,
-            15 => thread.mask = byte & byte.rotate_left(3),
-            16 => state.queue[t] = byte % 65,
-            17 => state.queue.swap(p, 0),
-            18 => state.queued = byte % 66,
-            19 => state.running = byte % 65,
-            20 => state.running = 255,
-            21 => history[place] = history[place].wrapping_add(by),
-            22 => {
-                history[place] = history[place].wrapping_add(by);
-                let row = place / state.settings.window as usize;
-                state.used[row] = state.used[row].wrapping_add(by);
+    fn remaining(
+        &mut self,
+        saved: &mut Saved,
+        partition: u32,
+        told: Result<Balance, u8>,
+    ) -> Checked {
+        let mut found = OLD_NUMBER;
+        let refusal = self.fenced.remaining(saved, partition, &mut found);
+        let wanted = match told {
+            Ok(Balance(remaining)) => (0, remaining as u32),
+            Err(number) => (number.into(), OLD_NUMBER),
+        };
+        same("remaining", &wanted, &(refusal, found))
+            .map_err(|difference| differs(format!("partition {partition}: {}", difference.what)))
+    }
+
+    /// By runs of a few records.
+    fn records(&mut self, case: &Case, second: &Scheduler, lines: &[u8]) -> Checked {
+        let mut second = second.clone();
+        let mut saved = Saved::filled(OLD_BYTE, states::wanted(second.settings()));
+        saved.set(&second);
+        let mut wanted = saved.clone();
+        let mut found = vec![OLD_BYTE; lines.len()];
+        let mut at = 0;
+        while at < case.events.len() {
+            let end = case.events.len().min(at + RECORD * (1 + self.below(40)));
+            let mut events = case.events[at..end].to_vec();
+            let refusal = self.fenced.run(&mut saved, &mut events, &mut found[at..]);
+            same("a run of a few records", &0, &refusal)?;
+            for event in events.chunks(RECORD) {
+                second.event(event);
+                self.counts.records += 1;
             }
-            _ => history.truncate([history.len() - 1, place][self.below(2)]),
+            wanted.set(&second);
+            same_saved("after a run of a few records", &wanted, &saved)?;
+            at = end;
+        }
+        same_lines("runs of a few records", lines, &found)
+    }
+
+    /// All doors that are given a state, on any state.
+    fn on_any_state(&mut self, given: &Saved, record: &[u8]) -> Checked {
+        let refusal = sound::refused(given);
+        let mut plain = (refusal == 0).then(|| states::plain(given));
+        let refused = Line::refused(refusal);
+
+        let mut saved = given.clone();
+        let decision = self.fenced.decision(&mut saved);
+        let told = plain.as_ref().map_or(refused, Plain::decision);
+        same("decision on a changed state", &told, &decision)?;
+        let count = given.state.settings.count;
+        let partition = self.random.below(18);
+        let told = match &plain {
+            None => Err(refusal),
+            Some(_) if partition >= count => Err(12),
+            Some(plain) => Ok(Balance(plain.remaining(partition as usize))),
+        };
+        self.remaining(&mut saved, partition, told)?;
+        same_saved("decision or remaining on a changed state", given, &saved)?;
+
+        let mut wanted = given.clone();
+        let told = plain.as_mut().map_or(refused, |plain| plain.event(record));
+        if let Some(plain) = &plain {
+            wanted.set(plain);
+        }
+        let mut event = record.to_vec();
+        let line = self.fenced.event(&mut saved, &mut event);
+        same("an event on a changed state", &told, &line)?;
+        same_saved("after an event on a changed state", &wanted, &saved)?;
+
+        let mut saved = given.clone();
+        let mut lines = [OLD_BYTE; RECORD];
+        let mut text = lines;
+        if refusal == 0 {
+            told.write(&mut text);
+        }
+        let run = self.fenced.run(&mut saved, &mut event, &mut lines);
+        same("a run on a changed state", &u32::from(refusal), &run)?;
+        same_saved("after a run on a changed state", &wanted, &saved)?;
+        same("the line of a run on a changed state", &text, &lines)?;
+        check(event == record, "an event's bytes were changed")?;
+
+        self.reach.refusals[usize::from(refusal)] += u64::from(refusal != 0);
+        self.counts.refused += u64::from(refusal != 0);
+        self.counts.sound += u64::from(refusal == 0);
+        Ok(())
+    }
+
+    /// Each byte of a state and of its history with other values: all of
+    /// them for a few states, where flags that are neither 0 nor 1 have to be
+    /// refused with 8, and some for more states.
+    fn each_byte(&mut self, saved: &Saved, some: bool) -> Checked {
+        let all = self.counts.thorough < THOROUGH
+            && saved.history.len() <= SHORT
+            && saved.state.queued >= 3;
+        if !all && !some {
+            return Ok(());
+        }
+        self.counts.thorough += u64::from(all);
+        let mut tick = [0; RECORD];
+        tick[0] = 1;
+        tick[4..8].copy_from_slice(&saved.state.stamp.to_le_bytes());
+        for place in 0..proved::STATE + 4 * saved.history.len() {
+            let values = if all { 255 } else { 3 };
+            for value in 1..=values {
+                let bit = 1 << self.random.below(8);
+                let by = if all { value } else { bit };
+                let mut changed = saved.clone();
+                let byte = match place.checked_sub(proved::STATE) {
+                    None => &mut changed.state.bytes()[place],
+                    Some(place) => damage::byte(&mut changed.history, place),
+                };
+                *byte ^= by;
+                let odd = *byte > 1 && damage::FLAGS.contains(&place);
+                if odd {
+                    let refusal = sound::refused(&changed);
+                    same("a flag that is neither 0 nor 1", &8, &refusal)?;
+                    self.counts.flags += 1;
+                }
+                self.on_any_state(&changed, &tick)
+                    .map_err(|Difference { what, event }| Difference {
+                        what: format!("byte {place} changed by {by}: {what}"),
+                        event,
+                    })?;
+            }
+        }
+        Ok(())
+    }
+}
+
+/// Holds some lines to those of the reference.
+fn same_lines(through: &str, expected: &[u8], lines: &[u8]) -> Checked {
+    let records = || expected.chunks(RECORD).zip(lines.chunks(RECORD));
+    match records().position(|(a, b)| a != b) {
+        None => check(expected.len() == lines.len(), "the count of lines"),
+        Some(place) => {
+            let (a, b) = (&expected[place * RECORD..], &lines[place * RECORD..]);
+            let text = |line: &[u8]| line[..RECORD - 1].escape_ascii().to_string();
+            Err(Difference {
+                what: format!(
+                    "line {place} of {through}: {} from the reference, {} from the proved one",
+                    text(a),
+                    text(b)
+                ),
+                event: Some(place),
+            })
         }
     }
 }
 
-/// What stands beside the refusal of a start.
-const ZEROS: State = State {
-    settings: proved::Settings {
-        window: 0,
-        tick: 0,
-        policy: 0,
-        core: 0,
-        count: 0,
-        shares: [0; 16],
-    },
-    used: [0; 16],
-    stamp: 0,
-    slot: 0,
-    since: 0,
-    threads: [proved::Thread {
-        exists: false,
-        ready: false,
-        partition: 0,
-        priority: 0,
-        mask: 0,
-    }; 64],
-    queue: [0; 64],
-    queued: 0,
-    running: 0,
-};
+/// The seed that is being compared, or none while the fixed cases are, for
+/// the handler of a fault.
+static SEED: AtomicU64 = AtomicU64::new(NO_SEED);
+const NO_SEED: u64 = u64::MAX;
 
-/// Prints a difference with its case, cut after the line that differs.
+extern "C" fn fault(_: std::ffi::c_int) {
+    let case = match SEED.load(Ordering::Relaxed) {
+        NO_SEED => "a fixed case".into(),
+        seed => format!("seed {seed}"),
+    };
+    println!("compare: {case}: memory was touched that was not lent");
+    std::process::exit(1);
+}
+
+/// Prints a difference with its case, cut after the event that differs.
 fn report(name: &str, case: &Case, difference: &Difference) -> ExitCode {
     let mut case = case.clone();
-    if let Some(line) = difference.line {
-        case.events.truncate((line + 1) * RECORD);
+    if let Some(event) = difference.event {
+        case.events.truncate((event + 1) * RECORD);
     }
     print!("{case}");
     println!("compare: {name}: {}", difference.what);
@@ -376,17 +481,19 @@ fn fixed_cases(comparison: &mut Comparison) -> Result<usize, ExitCode> {
     let cases = fixed::cases();
     for fixed in &cases {
         let lines = answer(&fixed.case);
-        let mut checked = comparison.case(&fixed.case, &lines, true);
-        if checked.is_ok() && !lines.ends_with(fixed.lines.as_bytes()) {
-            checked = Err(differs(format!("{:?} is expected at the end", fixed.lines)));
-        }
-        checked.map_err(|difference| report(fixed.name, &fixed.case, &difference))?;
+        comparison
+            .case(0, &fixed.case, &lines, true)
+            .and_then(|()| {
+                let what = format!("{:?} is expected at the end", fixed.lines);
+                check(lines.ends_with(fixed.lines.as_bytes()), &what)
+            })
+            .map_err(|difference| report(fixed.name, &fixed.case, &difference))?;
     }
     let case = fixed::starved();
     let lines = answer(&case);
     let name = "the lowest priority, share 10";
     comparison
-        .case(&case, &lines, true)
+        .case(0, &case, &lines, true)
         .and_then(|()| check(fixed::charged(&lines) >= 7750, "less than 7,750 cycles"))
         .map_err(|difference| report(name, &case, &difference))?;
     println!(
@@ -399,20 +506,29 @@ fn fixed_cases(comparison: &mut Comparison) -> Result<usize, ExitCode> {
 fn compare(many: u64, first: u64) -> Result<(), ExitCode> {
     let begin = Instant::now();
     let mut comparison = Comparison::new();
+    fenced::on_fault(fault);
     let fixed = fixed_cases(&mut comparison)?;
     for seed in first..first.saturating_add(many) {
+        SEED.store(seed, Ordering::Relaxed);
         let case = stream(seed);
         let lines = answer(&case);
-        comparison.random = seed;
         comparison
-            .case(&case, &lines, seed % 8 == 0)
+            .case(seed, &case, &lines, seed % 8 == 0)
             .map_err(|difference| report(&format!("seed {seed}"), &case, &difference))?;
     }
-    let Comparison { reach, beside, .. } = comparison;
+    let Comparison { reach, counts, .. } = comparison;
     print!("{reach}");
     println!(
-        "again by single events: {}; by runs of a few records: {}; states changed on purpose: {} refused, {} still sound",
-        beside.events, beside.records, beside.damaged, beside.sound
+        "single events, each with its whole state and history: {}; with decision and remaining: {}",
+        counts.events, counts.asked
+    );
+    println!(
+        "events by runs of a few records: {}; sheets written: {}",
+        counts.records, counts.written
+    );
+    println!(
+        "states changed on purpose: {} refused, {} still sound; {} with each byte at all other values, flags at other values than 0 and 1: {}",
+        counts.refused, counts.sound, counts.thorough, counts.flags
     );
     let complete = reach.complete() && reach.refusals.iter().all(|&count| count > 0);
     if !complete {

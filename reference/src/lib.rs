@@ -11,7 +11,9 @@
 
 mod accounts;
 mod counts;
+mod kept;
 mod line;
+pub mod plain;
 mod record;
 pub mod refusal;
 mod scheduler;
@@ -20,11 +22,10 @@ pub mod streams;
 mod threads;
 
 #[cfg(test)]
-mod plain;
-#[cfg(test)]
 mod tests;
 
 pub use counts::{Balance, Cycles, Percent, Ticks};
+pub use kept::{Kept, Record};
 pub use line::Line;
 pub use scheduler::{Mode, Scheduler};
 pub use sheet::{read_sheet, write_sheet, Settings};

@@ -1,34 +1,30 @@
-//! A slow scheduler for the tests: the paper's rules one by one, everything
-//! worked out anew for each event. It checks what the fast one keeps at hand
-//! (best threads, sums, sets); its reading of the paper is the same.
+//! A slow scheduler: the paper's rules one by one, everything worked out
+//! anew for each event. It checks what the fast one keeps at hand (best
+//! threads, sums, sets); its reading of the paper is the same. It can be
+//! set up with any sound state, which the fast one cannot, and so tells what
+//! becomes of states that no events lead to.
 
-use crate::Settings;
+use crate::counts::Cycles;
+use crate::kept::{Kept, Record};
+use crate::{Line, Settings, NO_THREAD};
 use std::cmp::Ordering;
 
 #[derive(Clone)]
-struct Thread {
-    partition: usize,
-    priority: u8,
-    mask: u8,
-}
-
-#[derive(Clone)]
 pub struct Plain {
+    settings: Settings,
     w: usize,
     c: u64,
-    policy: u32,
-    core: u32,
     budgets: Vec<u64>,
     /// history[p][slot]
-    history: Vec<Vec<u64>>,
-    slot: usize,
-    since: u64,
-    stamp: u32,
-    threads: Vec<Option<Thread>>,
+    pub history: Vec<Vec<u64>>,
+    pub slot: usize,
+    pub since: u64,
+    pub stamp: u32,
+    pub threads: Vec<Option<Record>>,
     /// Ready threads in order of becoming ready.
-    line: Vec<usize>,
-    /// Partition of the running thread.
-    running: Option<usize>,
+    pub line: Vec<usize>,
+    /// The running thread.
+    pub running: Option<usize>,
 }
 
 impl Plain {
@@ -37,10 +33,9 @@ impl Plain {
         let c = u64::from(settings.tick.0);
         let shares = &settings.shares[..settings.partitions];
         Plain {
+            settings: *settings,
             w,
             c,
-            policy: settings.policy,
-            core: settings.core,
             budgets: shares
                 .iter()
                 .map(|s| u64::from(s.0) * w as u64 * c / 100)
@@ -55,24 +50,23 @@ impl Plain {
         }
     }
 
-    /// Refusal, mode, partition, thread.
-    pub fn event(&mut self, record: &[u8]) -> [u8; 4] {
+    pub fn event(&mut self, record: &[u8]) -> Line {
         match self.accept(record) {
             Ok(()) => {
-                let (mode, partition, thread) = self.decide();
-                self.running = (mode != 0).then_some(partition);
-                [0, mode, partition as u8, thread as u8]
+                let decision = self.decision();
+                self.running = (decision.mode != 0).then_some(decision.thread.into());
+                decision
             }
-            Err(number) => [number, 0, 0, 0],
+            Err(number) => Line::refused(number),
         }
     }
 
-    pub fn used(&self, p: usize) -> u64 {
-        self.history[p].iter().sum()
+    pub fn remaining(&self, p: usize) -> i64 {
+        self.budgets[p] as i64 - self.total(p) as i64
     }
 
-    pub fn remaining(&self, p: usize) -> i64 {
-        self.budgets[p] as i64 - self.used(p) as i64
+    fn total(&self, p: usize) -> u64 {
+        self.history[p].iter().sum()
     }
 
     fn accept(&mut self, record: &[u8]) -> Result<(), u8> {
@@ -123,8 +117,7 @@ impl Plain {
             }
         }
         // 12
-        let partition = usize::from(record[2]);
-        if kind == 2 && (partition >= self.budgets.len() || record[8] == 0) {
+        if kind == 2 && (usize::from(record[2]) >= self.budgets.len() || record[8] == 0) {
             return Err(12);
         }
         // 13
@@ -132,8 +125,8 @@ impl Plain {
         if kind == 3 && ready || kind == 4 && !ready {
             return Err(13);
         }
-        if let Some(p) = self.running {
-            self.history[p][self.slot] += elapsed;
+        if let Some(record) = self.running.and_then(|t| self.threads[t]) {
+            self.history[usize::from(record.partition)][self.slot] += elapsed;
         }
         self.since += elapsed;
         self.stamp = stamp;
@@ -146,8 +139,8 @@ impl Plain {
                 self.since = 0;
             }
             2 => {
-                self.threads[t] = Some(Thread {
-                    partition,
+                self.threads[t] = Some(Record {
+                    partition: record[2],
                     priority: record[3],
                     mask: record[8],
                 })
@@ -168,8 +161,8 @@ impl Plain {
     fn runnable(&self, p: usize) -> Vec<(usize, u8)> {
         let mut found = Vec::new();
         for &t in &self.line {
-            let thread = self.threads[t].as_ref().unwrap();
-            if thread.partition == p && thread.mask >> self.core & 1 == 1 {
+            let thread = self.threads[t].unwrap();
+            if usize::from(thread.partition) == p && thread.mask >> self.settings.core & 1 == 1 {
                 found.push((t, thread.priority));
             }
         }
@@ -195,14 +188,24 @@ impl Plain {
             (0, _) => Ordering::Less,
             (_, 0) => Ordering::Greater,
             (budget_a, budget_b) => {
-                let a = u128::from(self.used(a)) * u128::from(budget_b);
-                let b = u128::from(self.used(b)) * u128::from(budget_a);
+                let a = u128::from(self.total(a)) * u128::from(budget_b);
+                let b = u128::from(self.total(b)) * u128::from(budget_a);
                 b.cmp(&a)
             }
         }
     }
 
-    pub fn decide(&self) -> (u8, usize, usize) {
+    pub fn decision(&self) -> Line {
+        let (mode, partition, thread) = self.decide();
+        Line {
+            refusal: 0,
+            mode,
+            partition: partition as u8,
+            thread: thread as u8,
+        }
+    }
+
+    fn decide(&self) -> (u8, usize, usize) {
         let count = self.budgets.len();
         let competing: Vec<usize> = (0..count)
             .filter(|&p| !self.runnable(p).is_empty())
@@ -222,7 +225,7 @@ impl Plain {
             let budget = self.has_budget(p).cmp(&self.has_budget(winner));
             let priority = self.top(p).cmp(&self.top(winner));
             let fraction = self.by_fraction(p, winner);
-            let order = match (mode, self.policy) {
+            let order = match (mode, self.settings.policy) {
                 (1, 1) => budget.then(fraction),
                 (1, _) | (2, _) => budget.then(priority).then(fraction),
                 _ => fraction,
@@ -238,4 +241,47 @@ impl Plain {
             .find(|&(_, priority)| priority == top);
         (mode, winner, first.unwrap().0)
     }
+}
+
+impl Kept for Plain {
+    fn settings(&self) -> &Settings {
+        &self.settings
+    }
+
+    fn stamp(&self) -> u32 {
+        self.stamp
+    }
+
+    fn slot(&self) -> usize {
+        self.slot
+    }
+
+    fn since_tick(&self) -> Cycles {
+        cycles(self.since)
+    }
+
+    fn in_slot(&self, partition: usize, slot: usize) -> Cycles {
+        cycles(self.history[partition][slot])
+    }
+
+    fn used(&self, partition: usize) -> Cycles {
+        cycles(self.total(partition))
+    }
+
+    fn thread(&self, number: usize) -> Option<Record> {
+        self.threads[number]
+    }
+
+    fn line(&self) -> Vec<u8> {
+        self.line.iter().map(|&t| t as u8).collect()
+    }
+
+    fn running(&self) -> u8 {
+        self.running.map_or(NO_THREAD, |t| t as u8)
+    }
+}
+
+/// Numbers of a sound state are all below 2^32.
+fn cycles(n: u64) -> Cycles {
+    Cycles(u32::try_from(n).unwrap())
 }

@@ -2,6 +2,7 @@
 
 use crate::accounts::Accounts;
 use crate::counts::{Balance, Cycles};
+use crate::kept::{Kept, Record};
 use crate::line::Line;
 use crate::record::{Event, Kind};
 use crate::sheet::{read_sheet, Settings};
@@ -116,18 +117,6 @@ impl Scheduler {
         } else {
             Err(refusal::PARTITION)
         }
-    }
-
-    pub fn settings(&self) -> &Settings {
-        &self.settings
-    }
-
-    pub fn stamp(&self) -> u32 {
-        self.stamp
-    }
-
-    pub fn since_tick(&self) -> Cycles {
-        self.since_tick
     }
 
     /// The partition that is charged, if any.
@@ -254,5 +243,43 @@ impl Scheduler {
             }
         }
         kept
+    }
+}
+
+impl Kept for Scheduler {
+    fn settings(&self) -> &Settings {
+        &self.settings
+    }
+
+    fn stamp(&self) -> u32 {
+        self.stamp
+    }
+
+    fn slot(&self) -> usize {
+        self.accounts.slot()
+    }
+
+    fn since_tick(&self) -> Cycles {
+        self.since_tick
+    }
+
+    fn in_slot(&self, partition: usize, slot: usize) -> Cycles {
+        self.accounts.in_slot(partition, slot)
+    }
+
+    fn used(&self, partition: usize) -> Cycles {
+        self.accounts.used(partition)
+    }
+
+    fn thread(&self, number: usize) -> Option<Record> {
+        self.threads.record(number)
+    }
+
+    fn line(&self) -> Vec<u8> {
+        self.threads.line()
+    }
+
+    fn running(&self) -> u8 {
+        self.choice.thread
     }
 }

@@ -3,14 +3,15 @@
 //! may change; this is what the proved doors' answers are compared with.
 
 use crate::proved::{Settings, State};
+use crate::states::Saved;
 
 /// 7, 8 or 0 for a state beside a history.
-pub fn refused(state: &State, history: &[u32]) -> u8 {
+pub fn refused(Saved { state, history }: &Saved) -> u8 {
     let settings = &state.settings;
     if !within_limits(settings) {
         return 8;
     }
-    let rows = usize::from(settings.count) * settings.window as usize;
+    let rows = settings.count as usize * settings.window as usize;
     match history.get(..rows) {
         None => 7,
         Some(rows) if accounts(state, rows) && threads(state) => 0,
@@ -33,12 +34,12 @@ fn within_limits(settings: &Settings) -> bool {
         && *policy <= 1
         && *core <= 7
         && (1..=16).contains(count)
-        && sum(&shares[..usize::from(*count)]) == 100
+        && sum(&shares[..*count as usize]) == 100
 }
 
 fn accounts(state: &State, rows: &[u32]) -> bool {
     let window = state.settings.window as usize;
-    let count = usize::from(state.settings.count);
+    let count = state.settings.count as usize;
     let longest = 2 * u64::from(state.settings.tick);
     let since = u64::from(state.since);
     let slot = state.slot as usize;
@@ -56,25 +57,29 @@ fn accounts(state: &State, rows: &[u32]) -> bool {
 }
 
 fn threads(state: &State) -> bool {
-    let queued = usize::from(state.queued);
+    let queued = state.queued as usize;
     if queued > 64 {
         return false;
     }
     let (line, unused) = state.queue.split_at(queued);
-    let allowed = |t: u8| state.threads[usize::from(t)].mask >> state.settings.core & 1 == 1;
     let times = |t: usize| line.iter().filter(|&&u| usize::from(u) == t).count();
     line.iter().all(|&t| t < 64)
         && unused.iter().all(|&t| t == 0)
-        && (0..64).all(|t| {
-            let thread = state.threads[t];
-            let fine = if thread.exists {
-                thread.partition < state.settings.count && thread.mask != 0
-            } else {
-                !thread.ready && [thread.partition, thread.priority, thread.mask] == [0; 3]
-            };
-            fine && times(t) == usize::from(thread.ready)
-        })
-        && (state.running == 255 || line.contains(&state.running) && allowed(state.running))
+        && (0..64).all(|t| thread(state, t) && times(t) == usize::from(state.ready[t]))
+        && (state.running == 255
+            || line.iter().any(|&t| u32::from(t) == state.running)
+                && state.masks[state.running as usize] >> state.settings.core & 1 == 1)
+}
+
+/// A thread's record: its flags are 0 or 1, and an absent one's are all 0.
+fn thread(state: &State, t: usize) -> bool {
+    let (partition, mask) = (state.partitions[t], state.masks[t]);
+    state.ready[t] <= 1
+        && match state.exists[t] {
+            0 => [state.ready[t], partition, state.priorities[t], mask] == [0; 4],
+            1 => u32::from(partition) < state.settings.count && mask != 0,
+            _ => false,
+        }
 }
 
 fn sum(numbers: &[u32]) -> u64 {

@@ -11,13 +11,13 @@ mod random;
 mod report;
 mod sheets;
 
+pub use random::Random;
 pub use report::{write_event, Reach};
 
 use crate::line::Line;
 use crate::scheduler::Scheduler;
 use crate::RECORD;
 use maker::Maker;
-use random::Random;
 use sheets::{refused_sheet, right_sheet};
 
 /// A sheet and the events for it, as the desk program would get them.

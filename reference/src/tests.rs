@@ -4,7 +4,9 @@
 use crate::accounts::Accounts;
 use crate::plain::Plain;
 use crate::streams::{answer, stream, Reach};
-use crate::{read_sheet, write_sheet, Balance, Cycles, Line, Percent, Scheduler, Settings, Ticks};
+use crate::{
+    read_sheet, write_sheet, Balance, Cycles, Kept, Line, Percent, Scheduler, Settings, Ticks,
+};
 
 // Helpers -------------------------------------------------------------------
 
@@ -709,6 +711,25 @@ fn lines() {
 
 // Streams -------------------------------------------------------------------
 
+/// Two schedulers keep the same things.
+fn same_kept(one: &impl Kept, other: &impl Kept) {
+    assert_eq!(one.settings(), other.settings());
+    assert_eq!(one.stamp(), other.stamp());
+    assert_eq!(one.slot(), other.slot());
+    assert_eq!(one.since_tick(), other.since_tick());
+    assert_eq!(one.line(), other.line());
+    assert_eq!(one.running(), other.running());
+    for t in 0..64 {
+        assert_eq!(one.thread(t), other.thread(t));
+    }
+    for p in 0..one.settings().partitions {
+        assert_eq!(one.used(p), other.used(p));
+        for slot in 0..one.settings().window.0 as usize {
+            assert_eq!(one.in_slot(p, slot), other.in_slot(p, slot));
+        }
+    }
+}
+
 /// The fast scheduler against the plain one, after every event.
 #[test]
 fn streams_agree_with_the_plain_model() {
@@ -721,22 +742,14 @@ fn streams_agree_with_the_plain_model() {
         let mut plain = Plain::new(fast.settings());
         for (number, event) in case.events.chunks(12).enumerate().take(400) {
             let line = fast.event(event);
-            let wanted = plain.event(event);
-            let got = [line.refusal, line.mode, line.partition, line.thread];
-            assert_eq!(got, wanted, "seed {seed}, event {number}");
+            assert_eq!(line, plain.event(event), "seed {seed}, event {number}");
             lines += 1;
             if number % 7 == 0 {
                 for p in 0..fast.settings().partitions {
                     assert_eq!(fast.remaining(p), Ok(Balance(plain.remaining(p))));
                 }
-                let (mode, partition, thread) = plain.decide();
-                let decision = fast.decision();
-                let got = (
-                    decision.mode,
-                    decision.partition as usize,
-                    decision.thread as usize,
-                );
-                assert_eq!(got, (mode, partition, thread));
+                assert_eq!(fast.decision(), plain.decision());
+                same_kept(&fast, &plain);
             }
         }
     }

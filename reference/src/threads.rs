@@ -6,6 +6,7 @@
 //! set of its threads that stand in the line and may run on this core, and
 //! the first of them with the top priority.
 
+use crate::kept::Record;
 use crate::record::Event;
 use crate::sheet::Settings;
 use crate::{refusal, PARTITIONS, THREADS};
@@ -16,6 +17,7 @@ struct Thread {
     place: u64,
     partition: u8,
     priority: u8,
+    mask: u8,
 }
 
 /// The runnable threads of one partition.
@@ -88,6 +90,30 @@ impl Threads {
         self.table[usize::from(t)].partition
     }
 
+    /// What is known of a thread that exists.
+    pub fn record(&self, t: usize) -> Option<Record> {
+        let Thread {
+            partition,
+            priority,
+            mask,
+            ..
+        } = self.table[t];
+        (self.existing & bit(t) != 0).then_some(Record {
+            partition,
+            priority,
+            mask,
+        })
+    }
+
+    /// The ready threads, the one furthest ahead first.
+    pub fn line(&self) -> Vec<u8> {
+        let mut line: Vec<u8> = (0..THREADS as u8)
+            .filter(|&t| self.ready & bit(t.into()) != 0)
+            .collect();
+        line.sort_unstable_by_key(|&t| self.table[usize::from(t)].place);
+        line
+    }
+
     /// A new thread, not ready.
     pub fn create(&mut self, event: &Event) -> Result<(), u8> {
         let t = usize::from(event.thread);
@@ -105,6 +131,7 @@ impl Threads {
             place: 0,
             partition: event.partition,
             priority: event.priority,
+            mask: event.mask,
         };
         Ok(())
     }

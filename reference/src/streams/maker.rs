@@ -2,6 +2,7 @@
 
 use super::random::Random;
 use crate::counts::{Cycles, Ticks};
+use crate::kept::Kept;
 use crate::scheduler::Scheduler;
 use crate::sheet::Settings;
 use crate::{RECORD, THREADS};

@@ -1,0 +1,100 @@
+//! States and settings with something changed, mostly one thing by little.
+
+use crate::proved::Settings;
+use crate::states::Saved;
+use reference::streams::Random;
+use std::ops::Range;
+
+/// Where a state's flags stand, `exists` and `ready`.
+pub const FLAGS: Range<usize> = 168..296;
+
+/// Half of what 32 bits hold: twice this is nothing to who adds in 32 bits.
+const HALF: u32 = 1 << 31;
+
+pub fn settings(random: &mut Random, settings: &mut Settings) {
+    let by = step(random);
+    let p = random.below(16) as usize;
+    match random.below(9) {
+        0 => settings.window = random.pick(&[0, 1, 2, 400, 401, u32::MAX]),
+        1 => add(&mut settings.window, by),
+        2 => add(&mut settings.tick, by),
+        3 => add(&mut settings.policy, by),
+        4 => add(&mut settings.core, by),
+        5 => settings.count = random.pick(&[0, 1, 16, 17, 256, by]),
+        6 => add(&mut settings.shares[p], by),
+        7 => settings.shares.swap(p, 0),
+        _ => {
+            add(&mut settings.shares[0], HALF);
+            add(&mut settings.shares[1], HALF);
+        }
+    }
+}
+
+pub fn saved(random: &mut Random, Saved { state, history }: &mut Saved) {
+    let by = step(random);
+    let t = random.below(64) as usize;
+    let byte = random.byte();
+    let window = state.settings.window as usize;
+    let place = random.below(history.len() as u32) as usize;
+    let (row, slot) = (place / window, place % window);
+    match random.below(26) {
+        0..=3 => settings(random, &mut state.settings),
+        4 => add(&mut state.used[row], by),
+        5 => add(&mut state.stamp, by),
+        6 => add(&mut state.slot, by),
+        7 => add(&mut state.since, by),
+        8 => add(&mut state.queued, by),
+        9 => state.running = random.pick(&[t as u32, 64, 255, 256, by]),
+        10 => state.exists[t] ^= byte & 3,
+        11 => state.ready[t] ^= byte & 3,
+        12 => state.partitions[t] = byte % 17,
+        13 => state.priorities[t] = byte,
+        14 => state.masks[t] = byte & byte.rotate_left(3),
+        15 => state.queue[t] = byte % 65,
+        16 => state.queue.swap(t % 16, 0),
+        17 => add(&mut history[place], by),
+        18..=20 => {
+            // The total goes along: slots are what is left to be wrong.
+            add(&mut history[place], by);
+            add(&mut state.used[row], by);
+        }
+        21 => {
+            // Two of a row, its total as it was.
+            add(&mut history[place], HALF);
+            add(&mut history[row * window + (slot + 1) % window], HALF);
+        }
+        22 => {
+            // Two of a slot, their totals going along.
+            let count = state.settings.count as usize;
+            for row in [row, (row + 1) % count] {
+                add(&mut history[row * window + slot], HALF);
+                add(&mut state.used[row], HALF);
+            }
+        }
+        23 => {
+            // One more in the line: a thread, flagged once more, or a
+            // number that is no thread's.
+            let entry = random.pick(&[t as u8, 64, 255]);
+            state.queue[state.queued as usize % 64] = entry;
+            state.queued += 1;
+            state.ready[t] += u8::from(entry < 64);
+        }
+        _ => history.truncate(random.pick(&[history.len() - 1, place])),
+    }
+}
+
+/// One byte of some numbers.
+pub fn byte(numbers: &mut [u32], place: usize) -> &mut u8 {
+    let number: *mut u32 = &mut numbers[place / 4];
+    unsafe { &mut *number.cast::<u8>().add(place % 4) }
+}
+
+/// Something to add.
+fn step(random: &mut Random) -> u32 {
+    let bit = 1 << random.below(32);
+    random.pick(&[1, u32::MAX, 100, bit])
+}
+
+fn add(number: &mut u32, by: u32) {
+    *number = number.wrapping_add(by);
+}
