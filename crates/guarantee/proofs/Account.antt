@@ -21,15 +21,13 @@ use Rattle.units.specs.declared.Cycles.{Cycles}
 use Rattle.sheet.specs.Settings.{W, Limits}
 use Rattle.sheet.specs.Sheet.{settingsOf}
 use Rattle.sheet.specs.declared.Settings.{Settings}
-use Rattle.model.specs.State.{absent, thread, queueOf, used}
+use Rattle.model.specs.State.{absent, thread, queueOf, used, Thread, State}
 use Rattle.model.specs.Policy.{Decided, decide}
 use Rattle.model.specs.Event
 use Rattle.model.specs.Event.{kindOf, stampOf, elapsedAt}
 use Rattle.model.specs.Step.{Saved, Answer, cycles, billed, charge, moveSlot, act, settle, restart, apply, answer}
 use Rattle.model.specs.Run.{Entry, run, freshState, fresh, after}
 use Rattle.model.specs.Doors.{refusedStart}
-use Rattle.model.specs.declared.Thread.{Thread}
-use Rattle.model.specs.declared.State.{State}
 use Rattle.model.specs.Facts.{Settled}
 use Rattle.guarantee.specs.Demand3 as demand
 use Rattle.guarantee.specs.Demand3.{Last, chargeOf}

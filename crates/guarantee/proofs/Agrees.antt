@@ -13,7 +13,7 @@ use Rattle.model.specs.Event.{elapsedAt}
 use Rattle.model.specs.Policy.{winner, decide}
 use Rattle.model.specs.Step.{Saved, billed, apply, answer}
 use Rattle.model.specs.Run.{Entry}
-use Rattle.model.specs.declared.State.{State}
+use Rattle.model.specs.State.{State}
 use Rattle.model.specs.Facts.{Settled}
 use Rattle.guarantee.specs.Demand3 as demand
 use Rattle.guarantee.specs.Demand3.{Last, lastOf, elapsedSince, chargeOf, chargedTo}

@@ -16,12 +16,11 @@ use Rattle.lists.proofs.Parts.{row-of, row-length}
 use Rattle.sheet.specs.Settings.{W, C, budget, Limits}
 use Rattle.sheet.specs.declared.Settings.{Settings}
 use Rattle.units.proofs.Laws.{has-budget}
-use Rattle.model.specs.State.{thread, idle, used}
+use Rattle.model.specs.State.{thread, idle, used, State}
 use Rattle.model.specs.Event
 use Rattle.model.specs.Event.{kindOf, elapsedAt, stampOf}
 use Rattle.model.specs.Policy.{candidates, competing, remaining, hasBudget, winner, chosen, decide}
 use Rattle.model.specs.Step.{Saved, saved, billed, charge, next, moveSlot, act, settle, restart, apply}
-use Rattle.model.specs.declared.State.{State}
 use Rattle.model.specs.Facts.{Settled, Sound, Accepted}
 use Rattle.sheet.proofs.Within.{budgets}
 use Rattle.model.proofs.Bounds.{next-inside}

@@ -9,8 +9,7 @@ use Rattle.units.specs.declared.Ticks.{Ticks}
 use Rattle.sheet.specs.declared.Settings.{Settings}
 use Rattle.model.specs.Policy.{candidates, competing, topPriority, remaining, hasBudget, betterFraction, mode, byBudget, byPriority, ratioPolicy, before, better, best, winner, chosen, decideFor, decide}
 use Rattle.model.specs.Step.{Saved, settle}
-use Rattle.model.specs.declared.Thread.{Thread}
-use Rattle.model.specs.declared.State.{State}
+use Rattle.model.specs.State.{Thread, State}
 
 module _ (s : State) (stamp : ℕ) (slot : Ticks) (since : Cycles) (running : ℕ) where
   -- the state at another time, with another thread running

@@ -8,12 +8,10 @@ use lib.Dec.{eqb}
 use borrow.Author.Tests.{eq-eqb, ne-eqb}
 use native.Mathlib.Omega.{arith}
 use Rattle.sheet.specs.declared.Settings.{Settings}
-use Rattle.model.specs.State.{thread, queueOf}
+use Rattle.model.specs.State.{thread, queueOf, Thread, State}
 use Rattle.model.specs.Event
 use Rattle.model.specs.Event.{kindOf, threadOf, stampOf}
 use Rattle.model.specs.Step.{Saved, leaves, charge, moveSlot, act, settle, restart, apply}
-use Rattle.model.specs.declared.Thread.{Thread}
-use Rattle.model.specs.declared.State.{State}
 use Rattle.model.specs.Facts.{threadAt, Accepted, Named}
 use Rattle.guarantee.specs.Account.{recordBy, queueBy}
 use Rattle.invariants.proofs.Queues.{at-set, queue-is}

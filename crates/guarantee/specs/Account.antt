@@ -11,15 +11,13 @@ use Rattle.units.specs.Units.{elapsedOf}
 use Rattle.sheet.specs.Settings.{W}
 use Rattle.sheet.specs.Sheet.{settingsOf}
 use Rattle.sheet.specs.declared.Settings.{Settings}
-use Rattle.model.specs.State.{absent, thread, queueOf, idle, used}
+use Rattle.model.specs.State.{absent, thread, queueOf, idle, used, Thread, State}
 use Rattle.model.specs.Policy.{Decided, idleMode, decide}
 use Rattle.model.specs.Event
 use Rattle.model.specs.Event.{kindOf, threadOf, partitionOf, priorityOf, maskOf, stampOf}
 use Rattle.model.specs.Step.{Saved, cycles, leaves, withReady, withPriority, created}
 use Rattle.model.specs.Run.{run, fresh, after}
 use Rattle.model.specs.Doors.{refusedStart}
-use Rattle.model.specs.declared.Thread.{Thread}
-use Rattle.model.specs.declared.State.{State}
 use Rattle.guarantee.specs.Demand3.{accepted}
 use Rattle.guarantee.specs.Ledger.{addFirst, acceptedOf}
 

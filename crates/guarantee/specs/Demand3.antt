@@ -12,14 +12,13 @@ use Rattle.lists.specs.Lists.{below, any, keep, member}
 use Rattle.units.specs.Units.{elapsedOf}
 use Rattle.sheet.specs.Settings.{W, C, budget}
 use Rattle.sheet.specs.declared.Settings.{Settings}
-use Rattle.model.specs.State.{thread, queueOf, allows}
+use Rattle.model.specs.State.{thread, queueOf, allows, State}
 use Rattle.model.specs.Policy.{idleMode}
 use Rattle.model.specs.Typed.{Lengths}
 use Rattle.model.specs.Event
 use Rattle.model.specs.Event.{kindOf, threadOf, partitionOf, maskOf, stampOf, refusedState}
 use Rattle.model.specs.Step.{Saved}
 use Rattle.model.specs.Run.{Entry, run}
-use Rattle.model.specs.declared.State.{State}
 
 abbrev pub accepted : Entry → Bool
 accepted e = eqb (e .answer .refusal) 0

@@ -9,12 +9,10 @@ use lib.Dec.{eqb}
 use borrow.Author.Tests.{eqb-true, eqb-false}
 use native.Mathlib.Omega.{arith}
 use Rattle.lists.proofs.Tests.{clash}
-use Rattle.model.specs.State.{absent, thread, queueOf}
+use Rattle.model.specs.State.{absent, thread, queueOf, Thread, State}
 use Rattle.model.specs.Event
 use Rattle.model.specs.Event.{kindOf, threadOf, partitionOf, priorityOf, maskOf}
 use Rattle.model.specs.Step.{withQueue, withThread, withReady, withPriority, created, joins, goes, act, leaves}
-use Rattle.model.specs.declared.Thread.{Thread}
-use Rattle.model.specs.declared.State.{State}
 use Rattle.model.specs.Facts.{Settled, Proper, ReadyQueue, Named}
 use Rattle.invariants.proofs.Queues.{queue-is, stored, proper-set, queue-same, queue-joins, queue-leaves}
 

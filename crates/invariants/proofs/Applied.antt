@@ -10,13 +10,11 @@ use lib.Dec.{eqb}
 use borrow.Author.Tests.{eqb-true, eqb-false}
 use native.Mathlib.Omega.{arith}
 use Rattle.sheet.specs.Settings.{W}
-use Rattle.model.specs.State.{absent, thread, queueOf, wanted}
+use Rattle.model.specs.State.{absent, thread, queueOf, wanted, Thread, State}
 use Rattle.model.specs.Event
 use Rattle.model.specs.Event.{kindOf, threadOf, stampOf, elapsedAt}
 use Rattle.model.specs.Step.{Saved, withThread, withQueue, leaves, billed, charge, next, moveSlot, act, settle, restart, apply}
 use Rattle.model.specs.Typed.{Lengths, ThreadTyped, Bytes, Typed}
-use Rattle.model.specs.declared.Thread.{Thread}
-use Rattle.model.specs.declared.State.{State}
 use Rattle.model.specs.Facts.{Settled, Sound, Accepted, Named}
 use Rattle.model.proofs.Bounds.{next-inside}
 use Rattle.invariants.proofs.Charges.{used-length, lower-length, history-past, clear-past}

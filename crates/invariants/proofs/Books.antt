@@ -15,10 +15,9 @@ use Rattle.lists.proofs.Parts.{row-of, row-get, row-length}
 use Rattle.units.specs.declared.Cycles.{Cycles}
 use Rattle.sheet.specs.Settings.{W, C, Limits}
 use Rattle.sheet.specs.declared.Settings.{Settings}
-use Rattle.model.specs.State.{used}
+use Rattle.model.specs.State.{used, State}
 use Rattle.model.specs.Step.{addUsed, addHistory, clearHistory, lowerUsed}
 use Rattle.model.specs.Facts.{Books, Rest, usedAt, charges}
-use Rattle.model.specs.declared.State.{State}
 use Rattle.invariants.specs.Charges.{share, charge}
 use Rattle.invariants.proofs.Charges.{row-charge, row-clear, used-charge, lower-past, lower-at}
 

@@ -15,10 +15,9 @@ use native.Mathlib.Nat.{not-suc-le-zero}
 use Rattle.lists.proofs.Parts.{row-of, in-rows, row-get, row-set, row-set-other}
 use Rattle.units.specs.declared.Cycles.{Cycles}
 use Rattle.sheet.specs.Settings.{W}
-use Rattle.model.specs.State.{used}
+use Rattle.model.specs.State.{used, State}
 use Rattle.model.specs.Step.{addUsed, addHistory, clearHistory, lowerUsed}
 use Rattle.model.specs.Facts.{usedAt}
-use Rattle.model.specs.declared.State.{State}
 use Rattle.invariants.specs.Charges.{share, charge}
 
 -- ---- the history after e is charged to the partition o in the current slot

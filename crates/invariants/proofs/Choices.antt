@@ -10,11 +10,10 @@ use native.Mathlib.Omega.{arith}
 use native.Mathlib.Decide.{decLt}
 use Rattle.lists.specs.Lists.{any, member}
 use Rattle.lists.proofs.Tests.{clash, both}
-use Rattle.model.specs.State.{thread, queueOf}
+use Rattle.model.specs.State.{thread, queueOf, State}
 use Rattle.model.specs.Policy.{competing, hasBudget, winner}
 use Rattle.model.specs.Choices.{Won}
 use Rattle.model.specs.Facts.{Settled}
-use Rattle.model.specs.declared.State.{State}
 use Rattle.model.proofs.Meaning.{sound-of}
 use Rattle.model.proofs.Order.{weak}
 use Rattle.model.proofs.Winner.{winner-none}

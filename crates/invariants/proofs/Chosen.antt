@@ -8,9 +8,8 @@ use borrow.Author.Tests.{eqb-true, eq-eqb}
 use Rattle.lists.specs.Lists.{any, consIf, keep, first, member}
 use Rattle.lists.proofs.Tests.{clash, both, and}
 use Rattle.lists.proofs.All.{member-keep, member-append, any-member, keep-both, maximum-high, maximum-found}
-use Rattle.model.specs.State.{thread, queueOf, idle}
+use Rattle.model.specs.State.{thread, queueOf, idle, State}
 use Rattle.model.specs.Policy.{candidates, competing, topPriority, chosen}
-use Rattle.model.specs.declared.State.{State}
 use Rattle.invariants.specs.Promises.{Allowed, FirstOf, mayRun, Choice}
 
 -- ---- the first element for which a test holds

@@ -9,11 +9,10 @@ use native.Mathlib.Omega.{arith}
 use Rattle.lists.specs.Lists.{any}
 use Rattle.lists.proofs.Tests.{clash}
 use Rattle.lists.proofs.All.{below-any}
-use Rattle.model.specs.State.{thread, queueOf, idle}
+use Rattle.model.specs.State.{thread, queueOf, idle, State}
 use Rattle.model.specs.Policy
 use Rattle.model.specs.Policy.{Decided, competing, mode, winner, chosen, decideFor, decide}
 use Rattle.model.specs.Choices.{Won}
-use Rattle.model.specs.declared.State.{State}
 use Rattle.model.specs.Facts.{Settled, Runs}
 use Rattle.model.proofs.Bounds.{queued-inside}
 use Rattle.model.proofs.Winner.{winner-won, winner-none}

@@ -9,10 +9,9 @@ use lib.Dec.{eqb}
 use borrow.Author.Tests.{eqb-false}
 use native.Mathlib.Omega.{arith}
 use Rattle.sheet.specs.Settings.{W, C}
-use Rattle.model.specs.State.{thread, idle, wanted}
+use Rattle.model.specs.State.{thread, idle, wanted, State}
 use Rattle.model.specs.Event.{elapsedAt, stampOf}
 use Rattle.model.specs.Step.{Saved, billed, charge, next, moveSlot, restart}
-use Rattle.model.specs.declared.State.{State}
 use Rattle.model.specs.Facts.{Settled, Sound}
 use Rattle.model.proofs.Bounds.{running-inside, clear-length, next-inside}
 use Rattle.invariants.proofs.Charges.{history-length}

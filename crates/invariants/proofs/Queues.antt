@@ -13,10 +13,8 @@ use native.Mathlib.Decide.{ℕ-discrete}
 use Rattle.lists.specs.Lists.{any, all, member, distinct}
 use Rattle.lists.proofs.Tests.{clash, both}
 use Rattle.lists.proofs.All.{member-append, member-without, without, distinct-snoc, distinct-keep, pigeonhole}
-use Rattle.model.specs.State.{absent, queueOf}
+use Rattle.model.specs.State.{absent, queueOf, Thread, State}
 use Rattle.model.specs.Step.{withQueue, leaves}
-use Rattle.model.specs.declared.Thread.{Thread}
-use Rattle.model.specs.declared.State.{State}
 use Rattle.model.specs.Facts.{Proper, ReadyQueue, Stored, threadAt}
 
 -- ---- the queue as stored

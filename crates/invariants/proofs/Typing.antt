@@ -13,9 +13,8 @@ use Rattle.lists.specs.Lists.{all}
 use Rattle.lists.proofs.Tests.{both}
 use Rattle.lists.proofs.All.{member-all}
 use Rattle.units.specs.declared.Cycles.{Cycles}
-use Rattle.model.specs.State.{thread, queueOf, used, wanted}
+use Rattle.model.specs.State.{thread, queueOf, used, wanted, State}
 use Rattle.model.specs.Typed.{Lengths, SettingsTyped, ThreadTyped, Words, Bytes, Typed}
-use Rattle.model.specs.declared.State.{State}
 use Rattle.model.specs.Facts.{Settled, Sound}
 use Rattle.model.proofs.Bounds.{used-most}
 
@@ -52,10 +51,10 @@ module _ (s : State) (h : List ℕ) (g : Sound s h) (len : Lengths s) (fits : wa
           let out : used s p ≡ 0 = ap (λ (c : Cycles). c .0) (List·getD-eq-default (s .used) (record { 0 = 0 }) {n = p} (rw (len .used) (omega arith))) in
           omega arith
 
-  running-byte : s .running < 256
-  running-byte = go (ℕ-discrete (s .running) 255)
+  running-word : s .running < 2 ^ 32
+  running-word = go (ℕ-discrete (s .running) 255)
     where
-      go : Dec (s .running ≡ 255) → s .running < 256
+      go : Dec (s .running ≡ 255) → s .running < 2 ^ 32
       go (yes e) = omega arith
       go (no n) = omega (arith, k .queue .inside (s .running) (g .runs .queued n))
 
@@ -71,7 +70,7 @@ module _ (s : State) (h : List ℕ) (g : Sound s h) (len : Lengths s) (fits : wa
       threads = ts;
       queue = queue-bytes;
       queued = omega (arith, k .stored .few);
-      running = running-byte;
+      running = running-word;
     };
     history = w;
   }

@@ -9,7 +9,7 @@ use Rattle.lists.proofs.Tests.{clash, and}
 use Rattle.lists.proofs.All.{below-any}
 use Rattle.model.specs.Policy
 use Rattle.model.specs.Policy.{competing, hasBudget, mode, before, winner, byBudget, ratioPolicy}
-use Rattle.model.specs.declared.State.{State}
+use Rattle.model.specs.State.{State}
 use Rattle.model.proofs.Winner.{winner-won}
 
 module _ (s : State) where

@@ -8,7 +8,7 @@ use lib.ListN.{length, drop}
 use lib.Dec.{eqb}
 use Rattle.lists.specs.Lists.{member}
 use Rattle.sheet.specs.Sheet.{settingsOf}
-use Rattle.model.specs.State.{thread, queueOf, allows, idle, used, wanted}
+use Rattle.model.specs.State.{thread, queueOf, allows, idle, used, wanted, State}
 use Rattle.model.specs.Typed.{Words, Bytes, Typed}
 use Rattle.model.specs.Policy.{Decided, competing, hasBudget, idleMode, mode, before, decide}
 use Rattle.model.specs.Choices.{StrictWeak, Won}
@@ -17,7 +17,6 @@ use Rattle.model.specs.Event.{refusedState}
 use Rattle.model.specs.Step.{Saved, answer}
 use Rattle.model.specs.Run.{fresh, after}
 use Rattle.model.specs.Doors.{refusedStart}
-use Rattle.model.specs.declared.State.{State}
 
 -- ---- soundness
 

@@ -9,12 +9,11 @@ use borrow.Author.Tests.{eqb-true, eqb-false, eq-eqb, ne-eqb, leb-false, le-leb,
 use native.Mathlib.Omega.{arith}
 use Rattle.lists.proofs.Tests.{neither, and-right, passes, passes-number}
 use Rattle.sheet.specs.Settings.{withinLimits}
-use Rattle.model.specs.State.{thread, wanted}
+use Rattle.model.specs.State.{thread, wanted, State}
 use Rattle.model.specs.Sound.{sound}
 use Rattle.model.specs.Event
 use Rattle.model.specs.Event.{kindOf, threadOf, partitionOf, refusedState, refusedEvent, refused, tooLong, namesThread, wrongThread, wrongPlace, wrongReadiness, wellFormed}
 use Rattle.model.specs.Facts.{Fit, Accepted}
-use Rattle.model.specs.declared.State.{State}
 use Rattle.sheet.proofs.Within.{of-limits}
 use Rattle.model.proofs.Meaning.{sound-of, of-sound}
 

@@ -15,10 +15,9 @@ use Rattle.lists.proofs.Parts.{row-of, row-get, row-length}
 use Rattle.units.specs.declared.Cycles.{Cycles}
 use Rattle.sheet.specs.Settings.{W, C, Limits}
 use Rattle.sheet.specs.declared.Settings.{Settings}
-use Rattle.model.specs.State.{thread, queueOf, idle, used, place, wanted}
+use Rattle.model.specs.State.{thread, queueOf, idle, used, place, wanted, State}
 use Rattle.model.specs.Step.{next, clearHistory}
 use Rattle.model.specs.Facts.{Books, Settled, Sound, usedAt, charges}
-use Rattle.model.specs.declared.State.{State}
 
 module _ (c : Settings) (u : List Cycles) (slot since : ℕ) (h : List ℕ) (lim : Limits c) (room : c .count * W c ≤ length h) (b : Books c u slot since h) where
   -- a number of the history's rows

@@ -10,11 +10,9 @@ use Rattle.lists.specs.Lists.{member}
 use Rattle.lists.proofs.Tests.{both, and, or-right}
 use Rattle.lists.proofs.All.{all-below, below-all, all-member, member-all}
 use Rattle.sheet.specs.Settings.{share}
-use Rattle.model.specs.State.{absent, thread, queueOf, allows, idle, used}
+use Rattle.model.specs.State.{absent, thread, queueOf, allows, idle, used, Thread, State}
 use Rattle.model.specs.Sound.{slotSum, soundHistory, soundThread, soundQueue, soundRest, soundRunning, sound}
 use Rattle.model.specs.Facts.{Books, Rest, Proper, ReadyQueue, Stored, Runs, Settled, Sound}
-use Rattle.model.specs.declared.Thread.{Thread}
-use Rattle.model.specs.declared.State.{State}
 use Rattle.sheet.proofs.Within.{limits-of, of-limits}
 
 books-of : (s : State) (h : List ℕ) → soundHistory s h ≡ true → Books (s .settings) (s .used) (s .slot .0) (s .since .0) h

@@ -10,10 +10,9 @@ use native.Mathlib.Nat.{mul-le-mul-right, le-of-mul-le-mul-right}
 use Rattle.lists.proofs.Tests.{clash, neither, both}
 use Rattle.sheet.specs.Settings.{budget}
 use Rattle.units.specs.Units.{smallerFraction}
-use Rattle.model.specs.State.{used}
+use Rattle.model.specs.State.{used, State}
 use Rattle.model.specs.Policy.{hasBudget, topPriority, betterFraction, byBudget, byPriority, ratioPolicy, before, atLimit, freeTime}
 use Rattle.model.specs.Choices.{StrictWeak}
-use Rattle.model.specs.declared.State.{State}
 
 -- ---- first by a number, the larger being the better
 
@@ -80,9 +79,9 @@ cross u₁ b₁ u₂ b₂ u₃ b₃ n h k =
     let z : u₃ * b₁ * b₂ ≤ u₁ * b₃ * b₂ = omega arith in
     le-of-mul-le-mul-right z (omega arith)
 
-by-fraction : (s : State) → StrictWeak (betterFraction s)
-unfolding betterFraction
-by-fraction s = record {
+-- whatever the totals and the budgets are
+pub fraction-weak : (u b : ℕ → ℕ) → StrictWeak (λ p q. smallerFraction (u p) (b p) (u q) (b q))
+fraction-weak u b = record {
   asymmetric = λ p q e.
       let (n, lt) = frac-true (u p) (b p) (u q) (b q) e in
       false-frac (u q) (b q) (u p) (b p) (λ m. (n, omega (arith, lt m)));
@@ -91,12 +90,10 @@ by-fraction s = record {
       let (l, y) = frac-false (u q) (b q) (u r) (b r) f m in
       (l, cross (u p) (b p) (u q) (b q) (u r) (b r) m x y));
 }
-  where
-    u : ℕ → ℕ
-    u p = used s p
 
-    b : ℕ → ℕ
-    b p = budget (s .settings) p
+by-fraction : (s : State) → StrictWeak (betterFraction s)
+unfolding betterFraction
+by-fraction s = fraction-weak (λ p. used s p) (λ p. budget (s .settings) p)
 
 -- ---- all orders
 

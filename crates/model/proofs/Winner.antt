@@ -9,7 +9,7 @@ use native.Mathlib.Nat.{not-suc-le-zero}
 use Rattle.lists.proofs.Tests.{clash}
 use Rattle.model.specs.Policy.{competing, mode, before, best, better, winner}
 use Rattle.model.specs.Choices.{Won}
-use Rattle.model.specs.declared.State.{State}
+use Rattle.model.specs.State.{State}
 use Rattle.model.proofs.Order.{weak}
 
 module _ (s : State) where

@@ -3,7 +3,7 @@ use Prim.Native.Nat.{ℕ, _<_}
 use mathlib.Core.Path.{_≡_}
 use mathlib.Core.Bool.{Bool, true, false}
 use Rattle.model.specs.Policy.{competing, mode, before}
-use Rattle.model.specs.declared.State.{State}
+use Rattle.model.specs.State.{State}
 
 -- a strict weak order, in which there is a best
 pub record StrictWeak (R : ℕ → ℕ → Bool) : Type 0 where

@@ -1,19 +1,18 @@
--- The doors beside the event door (`answer` of Step): what each refuses, and what it answers. A refusal leaves lent memory as it was.
-use Prim.Native.Nat.{ℕ}
+-- The doors over what their caller lends: what each refuses, and what it answers. A refusal leaves lent memory as it was.
+use Prim.Native.Nat.{ℕ, _*_, _/_, min}
 use mathlib.Core.Bool.{not, cond}
-use mathlib.Core.List.{List}
-use lib.ListN.{length, replicate}
-use lib.IntN.{ℤ, pos}
+use mathlib.Core.List.{List, _++_}
+use lib.ListN.{length, drop}
+use lib.IntN.{pos}
 use lib.Dec.{leb, ltb, eqb}
-use Rattle.sheet.specs.Settings.{zeroSettings}
 use Rattle.sheet.specs.Sheet.{settingsOf, refusedSheet}
-use Rattle.model.specs.State.{absent, wanted}
+use Rattle.model.specs.State.{wanted}
 use Rattle.model.specs.Policy.{remaining, decide}
-use Rattle.model.specs.Event.{refusedState}
-use Rattle.model.specs.Step.{Saved}
-use Rattle.model.specs.Run.{freshState, fresh}
+use Rattle.model.specs.Step.{Saved, Answer, nothing, answer}
+use Rattle.model.specs.Run.{freshState, run, after}
 use Rattle.model.specs.Answers.{Line, refusalLine, decisionLine, Remainder}
-use Rattle.model.specs.declared.State.{State}
+use Rattle.model.specs.Lent.{Lent, stateIn, savedIn, refusedIn}
+use Rattle.model.specs.Stream.{eventCount, eventsIn, linesOf}
 
 -- ---- start: from a sheet's bytes, beside a lent history
 
@@ -23,44 +22,43 @@ refusedStart sheet h =
     cond (not (eqb (refusedSheet sheet) 0)) (refusedSheet sheet)
     (cond (ltb (length h) (wanted (freshState (settingsOf sheet)))) 7 0)
 
--- the zeros beside a refused start's number
-abbrev pub zeroState : State
-zeroState =
-    record {
-      settings = zeroSettings;
-      used = replicate 16 (record { 0 = 0 });
-      stamp = 0;
-      slot = record { 0 = 0 };
-      since = record { 0 = 0 };
-      threads = replicate 64 absent;
-      queue = replicate 64 0;
-      queued = 0;
-      running = 0;
-    }
+-- ---- event: the answer of Step, or the refusal of what was lent. "A refusal returns the given state and zeros for the rest"
 
-pub record Started : Type 0 where
-  pub refusal : ℕ
-  pub saved : Saved
+unfoldable pub answerTo : Lent → List ℕ → Answer
+answerTo x b =
+    cond (eqb (refusedIn x) 0) (answer (savedIn x) b)
+    (record { refusal = refusedIn x; decision = nothing; after = savedIn x })
 
-unfoldable pub start : List ℕ → List ℕ → Started
-start sheet h =
-    record {
-      refusal = refusedStart sheet h;
-      saved = cond (eqb (refusedStart sheet h) 0) (fresh (settingsOf sheet) h) (record { state = zeroState; history = h });
-    }
+-- ---- run: many events, each record with a line
+
+-- how many records are taken: each that there is room for a line for
+unfoldable pub takenBy : List ℕ → ℕ → ℕ
+takenBy events room = min (eventCount events) (room / 12)
+
+-- the state and the history after them; none is taken where what was lent is refused
+unfoldable pub afterRun : Lent → List ℕ → ℕ → Saved
+afterRun x events room =
+    cond (eqb (refusedIn x) 0) (after (savedIn x) (eventsIn events (takenBy events room))) (savedIn x)
+
+-- what is left in the lent lines: those of the records taken, and after them what was there
+unfoldable pub linesAfter : Lent → List ℕ → List ℕ → List ℕ
+linesAfter x events lines =
+    cond (eqb (refusedIn x) 0)
+    (linesOf (run (savedIn x) (eventsIn events (takenBy events (length lines)))) ++ drop (12 * takenBy events (length lines)) lines)
+    lines
 
 -- ---- decision: "mode, partition and thread as the rules give them for the state"
 
-unfoldable pub decision : State → List ℕ → Line
-decision s h = cond (eqb (refusedState s h) 0) (decisionLine (decide s)) (refusalLine (refusedState s h))
+unfoldable pub decision : Lent → Line
+decision x = cond (eqb (refusedIn x) 0) (decisionLine (decide (stateIn x))) (refusalLine (refusedIn x))
 
 -- ---- remaining: "one partition's remaining"
 
-unfoldable pub refusedRemaining : State → List ℕ → ℕ → ℕ
-refusedRemaining s h p =
-    cond (not (eqb (refusedState s h) 0)) (refusedState s h)
-    (cond (leb (s .settings .count) p) 12 0)
+unfoldable pub refusedRemaining : Lent → ℕ → ℕ
+refusedRemaining x p =
+    cond (not (eqb (refusedIn x) 0)) (refusedIn x)
+    (cond (leb (stateIn x .settings .count) p) 12 0)
 
-unfoldable pub remainder : State → List ℕ → ℕ → Remainder
-remainder s h p =
-    record { refusal = refusedRemaining s h p; remaining = cond (eqb (refusedRemaining s h p) 0) (remaining s p) (pos 0) }
+unfoldable pub remainder : Lent → ℕ → Remainder
+remainder x p =
+    record { refusal = refusedRemaining x p; remaining = cond (eqb (refusedRemaining x p) 0) (remaining (stateIn x) p) (pos 0) }

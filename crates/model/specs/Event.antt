@@ -6,9 +6,8 @@ use lib.ListN.{length, getD}
 use lib.Dec.{leb, ltb, eqb}
 use Rattle.units.specs.Units.{elapsedOf}
 use Rattle.sheet.specs.Settings.{C, withinLimits}
-use Rattle.model.specs.State.{thread, wanted}
+use Rattle.model.specs.State.{thread, wanted, State}
 use Rattle.model.specs.Sound.{sound}
-use Rattle.model.specs.declared.State.{State}
 
 abbrev pub byte : List ℕ → ℕ → ℕ
 byte b i = getD b i 0

@@ -9,13 +9,11 @@ use lib.ListN.{length, getD, take, drop}
 use lib.Dec.{eqb}
 use Rattle.lists.specs.Lists.{all, sum, total, member, distinct}
 use Rattle.sheet.specs.Settings.{W, C, share, Limits}
-use Rattle.model.specs.State.{absent, thread, queueOf, allows, idle, wanted}
+use Rattle.model.specs.State.{absent, thread, queueOf, allows, idle, wanted, Thread, State}
 use Rattle.model.specs.Event
 use Rattle.model.specs.Event.{kindOf, threadOf, partitionOf, maskOf, elapsedAt, wellFormed}
 use Rattle.units.specs.declared.Cycles.{Cycles}
 use Rattle.sheet.specs.declared.Settings.{Settings}
-use Rattle.model.specs.declared.Thread.{Thread}
-use Rattle.model.specs.declared.State.{State}
 
 -- partition p's number among the totals u, and its number for slot k in the history h
 abbrev pub usedAt : List Cycles → ℕ → ℕ

@@ -1,11 +1,14 @@
 pub mod State
+pub mod Arrays
 pub mod Policy
 pub mod Choices
 pub mod Sound
 pub mod Event
 pub mod Step
 pub mod Run
-pub mod Doors
 pub mod Answers
+pub mod Lent
+pub mod Stream
+pub mod Doors
 pub mod Typed
 pub mod Facts

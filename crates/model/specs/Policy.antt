@@ -8,8 +8,7 @@ use lib.Dec.{ltb, eqb}
 use Rattle.lists.specs.Lists.{below, any, keep, first, maximum}
 use Rattle.units.specs.Units.{remainingOf, hasBudgetOf, smallerFraction}
 use Rattle.sheet.specs.Settings.{C, budget}
-use Rattle.model.specs.State.{thread, queueOf, allows, idle, used}
-use Rattle.model.specs.declared.State.{State}
+use Rattle.model.specs.State.{thread, queueOf, allows, idle, used, State}
 
 -- a decision in the paper's numbers
 pub record Decided : Type 0 where

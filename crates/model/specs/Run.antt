@@ -3,9 +3,8 @@ use Prim.Native.Nat.{ℕ}
 use mathlib.Core.List.{List, [], _∷_}
 use lib.ListN.{replicate}
 use Rattle.sheet.specs.declared.Settings.{Settings}
-use Rattle.model.specs.State.{absent, idle}
+use Rattle.model.specs.State.{absent, idle, State}
 use Rattle.model.specs.Step.{Saved, zeroRows, Answer, answer}
-use Rattle.model.specs.declared.State.{State}
 
 -- "A fresh start has history zero, stamp 0, slot 0, no threads, idle"
 abbrev pub freshState : Settings → State

@@ -6,10 +6,8 @@ use lib.ListN.{getD, drop}
 use lib.Dec.{leb, ltb, eqb}
 use Rattle.lists.specs.Lists.{below, sum, total, all, member, distinct}
 use Rattle.sheet.specs.Settings.{W, C, share, withinLimits}
-use Rattle.model.specs.State.{thread, queueOf, allows, idle, used, place, row}
+use Rattle.model.specs.State.{thread, queueOf, allows, idle, used, place, row, Thread, State}
 use Rattle.model.specs.Policy.{partitions}
-use Rattle.model.specs.declared.Thread.{Thread}
-use Rattle.model.specs.declared.State.{State}
 
 -- two flags agree
 abbrev pub sameBool : Bool → Bool → Bool

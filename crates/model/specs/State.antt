@@ -1,12 +1,37 @@
--- Views of the state: threads, the ready queue, the rows of the lent history.
+-- The scheduler's state on one core, beside the lent history, as document 01 speaks of it, free of how it is stored (Arrays says what stands for
+-- it); and its views: threads, the ready queue, the rows of the history.
 use Prim.Native.Nat.{ℕ, _+_, _*_, _/_, _%_, _^_}
 use mathlib.Core.Bool.{Bool, false}
 use mathlib.Core.List.{List}
 use lib.ListN.{getD, take, drop}
 use lib.Dec.{eqb}
 use Rattle.sheet.specs.Settings.{W}
-use Rattle.model.specs.declared.Thread.{Thread}
-use Rattle.model.specs.declared.State.{State}
+use Rattle.units.specs.declared.Cycles.{Cycles}
+use Rattle.units.specs.declared.Ticks.{Ticks}
+use Rattle.sheet.specs.declared.Settings.{Settings}
+
+-- "threads, each with a partition, a priority 0 to 255 and a run mask of 8 bits, one a core"
+pub record Thread : Type 0 where
+  pub exists : Bool
+  pub ready : Bool
+  pub partition : ℕ
+  pub priority : ℕ
+  pub mask : ℕ
+
+pub record State : Type 0 where
+  pub settings : Settings
+  -- the paper's totals, used(p)
+  pub used : List Cycles
+  -- the stamp of the last accepted event, the current slot, the time since tick
+  pub stamp : ℕ
+  pub slot : Ticks
+  pub since : Cycles
+  pub threads : List Thread
+  -- the ready queue, the paper's line, with zeros after its first `queued` entries
+  pub queue : List ℕ
+  pub queued : ℕ
+  -- the running thread, 255 while idle
+  pub running : ℕ
 
 -- the record of a thread that does not exist
 abbrev pub absent : Thread

@@ -8,12 +8,10 @@ use lib.Dec.{eqb}
 use Rattle.lists.specs.Lists.{keep}
 use Rattle.units.specs.Units.{elapsedOf}
 use Rattle.sheet.specs.Settings.{W}
-use Rattle.model.specs.State.{absent, thread, queueOf, idle, used, place, wanted}
+use Rattle.model.specs.State.{absent, thread, queueOf, idle, used, place, wanted, Thread, State}
 use Rattle.model.specs.Policy.{Decided, decide}
 use Rattle.model.specs.Event.{kindOf, threadOf, partitionOf, priorityOf, maskOf, stampOf, tick, create, ready, block, setPriority, end, resume, refused}
 use Rattle.units.specs.declared.Cycles.{Cycles}
-use Rattle.model.specs.declared.Thread.{Thread}
-use Rattle.model.specs.declared.State.{State}
 
 -- a state beside its history
 pub record Saved : Type 0 where
@@ -206,7 +204,7 @@ pub record Answer : Type 0 where
   pub decision : Decided
   pub after : Saved
 
-abbrev nothing : Decided
+abbrev pub nothing : Decided
 nothing = record { mode = 0; partition = 0; thread = 0 }
 
 -- "A refusal returns the given state and zeros for the rest, and lent memory is as before"

@@ -4,10 +4,8 @@ use mathlib.Core.Path.{_≡_}
 use mathlib.Core.List.{List}
 use lib.ListN.{length, getD}
 use Rattle.sheet.specs.Settings.{W, C, share}
-use Rattle.model.specs.State.{thread, used}
+use Rattle.model.specs.State.{thread, used, Thread, State}
 use Rattle.sheet.specs.declared.Settings.{Settings}
-use Rattle.model.specs.declared.Thread.{Thread}
-use Rattle.model.specs.declared.State.{State}
 
 pub record Lengths (s : State) : Type 0 where
   pub shares : length (s .settings .shares) ≡ 16
@@ -18,9 +16,9 @@ pub record Lengths (s : State) : Type 0 where
 pub record SettingsTyped (c : Settings) : Type 0 where
   pub window : W c < 2 ^ 32
   pub tick : C c < 2 ^ 32
-  pub policy : c .policy < 256
-  pub core : c .core < 256
-  pub count : c .count < 256
+  pub policy : c .policy < 2 ^ 32
+  pub core : c .core < 2 ^ 32
+  pub count : c .count < 2 ^ 32
   pub shares : (p : ℕ) → share c p < 2 ^ 32
 
 pub record ThreadTyped (r : Thread) : Type 0 where
@@ -44,8 +42,8 @@ pub record StateTyped (s : State) : Type 0 where
   pub since : s .since .0 < 2 ^ 32
   pub threads : (t : ℕ) → ThreadTyped (thread s t)
   pub queue : Bytes (s .queue)
-  pub queued : s .queued < 256
-  pub running : s .running < 256
+  pub queued : s .queued < 2 ^ 32
+  pub running : s .running < 2 ^ 32
 
 -- a state and a history
 pub record Typed (s : State) (h : List ℕ) : Type 0 where

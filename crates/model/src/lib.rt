@@ -1,38 +1,21 @@
-// The scheduler's data: threads, the state on one core, and what the doors answer. What all of it means is said in specs/.
+// What the doors answer, and the single numbers of a state. What all of it means is said in specs/, and so is the state itself, of which
+// the program holds arrays of numbers (specs/Arrays).
 use refusals::Refusal;
-use sheet::Settings;
 use units::Cycles;
 use units::Ticks;
 
-// A thread's record; all zero where the thread does not exist.
-#[repr(C)]
-pub struct Thread {
-    pub exists: bool,
-    pub ready: bool,
-    pub partition: u8,
-    pub priority: u8,
-    // The run mask: bit m is set where core m may run the thread.
-    pub mask: u8,
-}
-
-// The scheduler's state on one core, beside the lent history.
-#[repr(C)]
-pub struct State {
-    pub settings: Settings,
-    // The paper's totals, used(p): what each partition was charged in the window.
-    pub used: [Cycles; 16],
+// The single numbers of a state that events change.
+pub struct Clock {
     // The stamp of the last accepted event.
     pub stamp: u32,
     // The current slot of the history.
     pub slot: Ticks,
     // The paper's time since tick.
     pub since: Cycles,
-    pub threads: [Thread; 64],
-    // The ready queue, the paper's line: its first `queued` entries are thread numbers, in order of becoming ready; the rest are 0.
-    pub queue: [u8; 64],
-    pub queued: u8,
+    // How many threads the ready queue holds.
+    pub queued: u32,
     // The running thread, 255 while idle.
-    pub running: u8,
+    pub running: u32,
 }
 
 // The paper's modes; specs/Answers has their numbers.

@@ -1,59 +1,152 @@
-// The event door. `event` asks nothing of its caller: whatever is given, it does its work or answers by a number, and a refusal leaves the
-// state and all lent memory as they were. `step` is for a caller that knows its state to be sound, and has to prove it.
-ghost use mathlib.Core.Path.{_≡_};
-ghost use Rattle.model.specs.Event.{refusedState, refused};
-ghost use Rattle.model.specs.Step as Step;
-ghost use Rattle.model.specs.Step.{saved};
-ghost use Rattle.scheduler.specs.Answers.{Answered};
-use model::State;
+// An event on a state that is not refused, in the arrays that its caller lends: refused, or done and decided.
+pub mod apply;
+pub mod batch;
+
+use decision::kept;
+use decision::kept::Sets;
+use event::Event;
+use model::Clock;
 use model::Verdict;
 use refusals::Outcome;
+use refusals::Refusal;
+use sheet::Settings;
+ghost use mathlib.Core.Path.{_≡_};
+ghost use Rattle.model.specs.Event.{refused, stampOf};
+ghost use Rattle.model.specs.Arrays.{stateOf};
+ghost use Rattle.model.specs.Step.{saved};
+ghost use Rattle.event.specs.Bytes.{bytesOf};
+ghost use Rattle.scheduler.specs.Stepping.{Whole, Answered, Still, refusedBy};
 
-// What the event door answers: the decision or the refusal, and the state for the next event.
-pub struct Answer {
+// What an event is answered; the clock and the sets after it.
+pub struct Stepped {
     pub verdict: Verdict,
-    pub state: State,
+    pub clock: Clock,
+    pub sets: Sets,
 }
 
 // All three steps: what was decided is the answer, and the thread chosen runs.
-fn accept(s: State, history: &mut [u32], event: &[u8]) -> Answer
-    requires { ⌜ refused s (now history) (now event) ≡ 0 ⌝ }
-    ensures { λ r. ⌜ Answered r (now (history .exit)) (Step.answer (saved s (now (history .entry))) (now (event .entry))) ⌝ }
+fn accept(
+    settings: Settings,
+    used: &mut [u32; 16],
+    exists: &mut [u8; 64],
+    ready: &mut [u8; 64],
+    partitions: &mut [u8; 64],
+    priorities: &mut [u8; 64],
+    masks: &mut [u8; 64],
+    queue: &mut [u8; 64],
+    budgets: &[u32; 16],
+    tops: &mut [u16; 16],
+    firsts: &mut [u8; 16],
+    history: &mut [u32],
+    c: Clock,
+    sets: Sets,
+    event: Event,
+) -> Stepped
+    requires { ⌜ Whole settings (now used) c (now exists) (now ready) (now partitions) (now priorities) (now masks) (now queue) (now history) (now budgets) (now tops) (now firsts) sets × (refused (stateOf settings (now used) c (now exists) (now ready) (now partitions) (now priorities) (now masks) (now queue)) (now history) (bytesOf event) ≡ 0) × (event .stamp ≡ stampOf (bytesOf event)) ⌝ }
+    ensures { λ r. ⌜
+        Answered settings
+        (saved (stateOf settings (now (used .entry)) c (now (exists .entry)) (now (ready .entry)) (now (partitions .entry)) (now (priorities .entry)) (now (masks .entry)) (now (queue .entry))) (now (history .entry)))
+        (bytesOf event)
+        (r .verdict)
+        (now (used .exit)) (r .clock) (now (exists .exit)) (now (ready .exit)) (now (partitions .exit)) (now (priorities .exit)) (now (masks .exit)) (now (queue .exit)) (now (history .exit)) (now (budgets .entry)) (now (tops .exit)) (now (firsts .exit)) (r .sets)
+        ⌝ }
 {
-    let mut t = effects::apply(s, history, event);
-    let decision = election::decide(t);
-    t.running = decision.thread;
-    Answer {
+    let d = apply::apply(
+        settings,
+        used,
+        exists,
+        ready,
+        partitions,
+        priorities,
+        masks,
+        queue,
+        budgets,
+        tops,
+        firsts,
+        history,
+        c,
+        sets,
+        event,
+    );
+    let after = d.sets;
+    let decision = kept::choose(settings, used, budgets, tops, firsts, after);
+    let k = d.clock;
+    let slot = k.slot;
+    let since = k.since;
+    let clock = Clock {
+        stamp: k.stamp,
+        slot: slot,
+        since: since,
+        queued: k.queued,
+        running: decision.thread as u32,
+    };
+    Stepped {
         verdict: Verdict::Decided(decision),
-        state: t,
+        clock: clock,
+        sets: after,
     }
 }
 
-// An event on a state that is not refused: a run of many events tests soundness once, and then steps.
-pub fn step(s: State, history: &mut [u32], event: &[u8]) -> Answer
-    requires { ⌜ refusedState s (now history) ≡ 0 ⌝ }
-    ensures { λ r. ⌜ Answered r (now (history .exit)) (Step.answer (saved s (now (history .entry))) (now (event .entry))) ⌝ }
+// The refusal; nothing changed.
+fn refuse(refusal: Refusal, clock: Clock, sets: Sets) -> Stepped
+    ensures { λ r. ⌜ r ≡ refusedBy refusal clock sets ⌝ }
 {
-    let outcome = admission::refused_event(s, event);
-    match outcome {
-        Outcome::Refused(refusal) => Answer {
-            verdict: Verdict::Refused(refusal),
-            state: s,
-        },
-        Outcome::Accepted => accept(s, history, event),
+    Stepped {
+        verdict: Verdict::Refused(refusal),
+        clock: clock,
+        sets: sets,
     }
 }
 
-// An event on any state, any history and any bytes.
-pub fn event(s: State, history: &mut [u32], event: &[u8]) -> Answer
-    ensures { λ r. ⌜ Answered r (now (history .exit)) (Step.answer (saved s (now (history .entry))) (now (event .entry))) ⌝ }
+// An event of any bytes: a run of many events tests the state once, and then steps.
+pub fn step(
+    settings: Settings,
+    used: &mut [u32; 16],
+    exists: &mut [u8; 64],
+    ready: &mut [u8; 64],
+    partitions: &mut [u8; 64],
+    priorities: &mut [u8; 64],
+    masks: &mut [u8; 64],
+    queue: &mut [u8; 64],
+    budgets: &[u32; 16],
+    tops: &mut [u16; 16],
+    firsts: &mut [u8; 16],
+    history: &mut [u32],
+    c: Clock,
+    sets: Sets,
+    event: &[u8],
+) -> Stepped
+    requires { ⌜ Whole settings (now used) c (now exists) (now ready) (now partitions) (now priorities) (now masks) (now queue) (now history) (now budgets) (now tops) (now firsts) sets ⌝ }
+    ensures { λ r. ⌜
+        Answered settings
+        (saved (stateOf settings (now (used .entry)) c (now (exists .entry)) (now (ready .entry)) (now (partitions .entry)) (now (priorities .entry)) (now (masks .entry)) (now (queue .entry))) (now (history .entry)))
+        (now (event .entry))
+        (r .verdict)
+        (now (used .exit)) (r .clock) (now (exists .exit)) (now (ready .exit)) (now (partitions .exit)) (now (priorities .exit)) (now (masks .exit)) (now (queue .exit)) (now (history .exit)) (now (budgets .entry)) (now (tops .exit)) (now (firsts .exit)) (r .sets)
+        × Still (saved (stateOf settings (now (used .entry)) c (now (exists .entry)) (now (ready .entry)) (now (partitions .entry)) (now (priorities .entry)) (now (masks .entry)) (now (queue .entry))) (now (history .entry))) (now (event .entry)) (now (used .entry)) c (now (exists .entry)) (now (ready .entry)) (now (partitions .entry)) (now (priorities .entry)) (now (masks .entry)) (now (queue .entry)) (now (history .entry)) (now (used .exit)) (r .clock) (now (exists .exit)) (now (ready .exit)) (now (partitions .exit)) (now (priorities .exit)) (now (masks .exit)) (now (queue .exit)) (now (history .exit))
+        ⌝ }
 {
-    let outcome = soundness::refused_state(s, &history[..]);
+    let decoded = event::decode(event);
+    let outcome = admission::refused_event(settings, exists, ready, c, decoded);
+    let e = decoded.event;
     match outcome {
-        Outcome::Refused(refusal) => Answer {
-            verdict: Verdict::Refused(refusal),
-            state: s,
-        },
-        Outcome::Accepted => step(s, history, event),
+        Outcome::Refused(refusal) => refuse(refusal, c, sets),
+        Outcome::Accepted => accept(
+            settings,
+            used,
+            exists,
+            ready,
+            partitions,
+            priorities,
+            masks,
+            queue,
+            budgets,
+            tops,
+            firsts,
+            history,
+            c,
+            sets,
+            e,
+        ),
     }
 }

@@ -1,172 +1,210 @@
--- The event door called again and again is a run of the model, so what is proved of the model's runs holds of what the doors return.
-use Prim.Native.Nat.{ℕ, _<_}
-use mathlib.Core.Path.{_≡_, refl, sym, ap, ap₂, subst, fun-ext, _∙_}
-use mathlib.Core.Bool.{Bool, true, false}
+-- The event door called again and again is a run of the model, so what is proved of the model's runs holds of what the doors leave.
+use Prim.Native.Nat.{ℕ, _≤_, _<_}
+use mathlib.Core.Logic.{_≢_}
+use mathlib.Core.Path.{_≡_, refl, sym, ap, ap₂, subst, _∙_}
+use mathlib.Core.Bool.{Bool, true, false, not}
 use mathlib.Core.List.{List, [], _∷_, _++_, map, map-map, reverse}
-use lib.ListN.{take}
+use lib.ListN.{length, take}
 use lib.Dec.{eqb}
-use Rattle.lists.specs.Lists.{keep, sum}
-use Rattle.lists.proofs.Tests.{both}
-use Rattle.lists.proofs.All.{keep-map}
-use Rattle.refusals.specs.Refusals.{outcomeOf}
-use Rattle.refusals.proofs.Laws.{never-zero}
+use lib.IntN.{pos}
+use lib.Signed.{_≤ℤ_}
+use borrow.Author.Tests.{ne-eqb, not-true}
+use native.Mathlib.Decide.{ℕ-discrete}
+use Rattle.lists.specs.Lists.{all, keep, sum}
+use Rattle.lists.proofs.Tests.{both, and, clash}
+use Rattle.lists.proofs.All.{all-append, keep-map}
+use Rattle.lists.proofs.Tables.{table-length}
 use Rattle.sheet.specs.Settings.{W}
 use Rattle.sheet.specs.Sheet.{settingsOf}
 use Rattle.sheet.specs.declared.Settings.{Settings}
 use Rattle.model.specs.State.{used}
 use Rattle.model.specs.Typed.{Lengths}
-use Rattle.model.specs.Policy.{Decided}
-use Rattle.model.specs.Event.{refusedState}
-use Rattle.model.specs.Step.{Saved, saved, answer}
+use Rattle.model.specs.Event.{kindOf, tick}
+use Rattle.model.specs.Step.{Saved, Answer, answer, nothing}
 use Rattle.model.specs.Run.{Entry, run, fresh, after}
-use Rattle.model.specs.Doors as Doors
-use Rattle.model.specs.Answers.{Line, lineOf, answerLine}
-use Rattle.model.specs.declared.State.{State}
-use Rattle.model.specs.declared.Verdict.{Verdict}
-use Rattle.model.specs.declared.Verdict.the-variants as verdict
-use Rattle.guarantee.specs.Demand3.{accepted, Served}
+use Rattle.model.specs.Doors.{refusedStart, answerTo}
+use Rattle.model.specs.Answers.{Line, answerLine}
+use Rattle.model.specs.Lent as Lent
+use Rattle.model.specs.Lent.{Lent, clockOf, stateIn, savedIn, refusedIn}
+use Rattle.model.proofs.Flags.{accepted}
+use Rattle.model.proofs.Table.{threads-length}
+use Rattle.guarantee.specs.Demand3 as Demand3
 use Rattle.guarantee.specs.Ledger.{ledgerOf, acceptedOf}
 use Rattle.guarantee.specs.Account.{Accounted, decisionsFrom}
-use Rattle.model.proofs.Accepted.{of-fit}
-use Rattle.invariants.proofs.Answered as Answers
-use Rattle.guarantee.proofs.Log.{Log, run-log, accepted-is, when-refused}
 use Rattle.guarantee.proofs.Demand3.{demand3}
 use Rattle.guarantee.proofs.Account.{account, answers}
 use Rattle.guarantee.proofs.Totals.{totals}
-use Rattle.invariants.proofs.Fresh.{start-good}
-use Rattle.scheduler.specs.Answers.{Answered}
-use Rattle.sessions.specs.Calls.{Call, Calls, leftBy, bytesOf, chosenBy, entryOf, entriesOf, decides, acceptedCalls, Session}
-use Rattle.sessions.specs.Calls.{AcceptedIsDecided, CallsAreRun, DoorDemand3, DoorAccount, DoorAnswers, DoorTotals, StartDemand3}
-use Rattle.startup.specs.declared.Started.{Started}
+use Rattle.accounts.proofs.ChargingLaws.{map-length}
+use Rattle.doors.specs.Doors.{Sizes, Answered}
+use Rattle.sessions.specs.Calls.{Call, Calls, leftBy, givenTo, chosenBy, entryOf, asEntries, acceptedCalls, Unmoved, Session}
+use Rattle.sessions.specs.Calls.{CallsAreRun, RefusedStays, DoorDemand3, DoorAccount, DoorAnswers, DoorTotals}
 
 -- ---- calls are a run
 
+pub answer-yes : (x : Lent) (b : List ℕ) → refusedIn x ≡ 0 → answerTo x b ≡ answer (savedIn x) b
+unfolding answerTo
+answer-yes x b z = rw z
+
+pub answer-no : (x : Lent) (b : List ℕ) → refusedIn x ≢ 0 → answerTo x b ≡ record { refusal = refusedIn x; decision = nothing; after = savedIn x }
+unfolding answerTo
+answer-no x b n = rw (ne-eqb (refusedIn x) 0 n)
+
+left-is : (x : Lent) (c : Call) → Answered x (c .bytes) (c .line) (c .left) → refusedIn x ≡ 0 → savedIn (c .left) ≡ answer (savedIn x) (c .bytes) .after
+left-is x c q z = q .after ∙ ap (λ (a : Answer). a .after) (answer-yes x (c .bytes) z)
+
 -- one call is the model's entry
-entry-is : (s : State) (h : List ℕ) (c : Call) → Answered (c .answer) (c .history) (answer (saved s h) (c .bytes))
-    → entryOf c ≡ record { event = c .bytes; answer = answer (saved s h) (c .bytes) }
-entry-is s h c q =
+entry-is : (x : Lent) (c : Call) → Answered x (c .bytes) (c .line) (c .left) → refusedIn x ≡ 0
+    → entryOf c ≡ record { event = c .bytes; answer = answer (savedIn x) (c .bytes) }
+entry-is x c q z =
     ap₂ (λ (l : Line) (v : Saved). record { event = c .bytes; answer = record { refusal = l .refusal; decision = chosenBy l; after = v } })
-    (q .line) (q .after)
+    (q .line ∙ ap answerLine (answer-yes x (c .bytes) z)) (left-is x c q z)
 
-entries-run : (s : State) (h : List ℕ) (cs : List Call) → Calls s h cs → entriesOf cs ≡ run (saved s h) (bytesOf cs)
+entries-run : (x : Lent) (cs : List Call) → Calls x cs → refusedIn x ≡ 0 → asEntries cs ≡ run (savedIn x) (givenTo cs)
 unfolding run
-entries-run s h [] q = refl
-entries-run s h (c ∷ cs) (q, qs) =
-    ap₂ (λ (e : Entry) (es : List Entry). e ∷ es) (entry-is s h c q)
-    (entries-run (c .answer .state) (c .history) cs qs ∙ ap (λ (v : Saved). run v (bytesOf cs)) (q .after))
+entries-run x [] q z = refl
+entries-run x (c ∷ cs) (q, qs) z =
+    ap₂ (λ (e : Entry) (es : List Entry). e ∷ es) (entry-is x c q z)
+    (entries-run (c .left) cs qs (q .taken z) ∙ ap (λ (v : Saved). run v (givenTo cs)) (left-is x c q z))
 
-left-after : (s : State) (h : List ℕ) (cs : List Call) → Calls s h cs → leftBy s h cs ≡ after (saved s h) (bytesOf cs)
+left-after : (x : Lent) (cs : List Call) → Calls x cs → refusedIn x ≡ 0 → savedIn (leftBy x cs) ≡ after (savedIn x) (givenTo cs)
 unfolding after
-left-after s h [] q = refl
-left-after s h (c ∷ cs) (q, qs) = left-after (c .answer .state) (c .history) cs qs ∙ ap (λ (v : Saved). after v (bytesOf cs)) (q .after)
+left-after x [] q z = refl
+left-after x (c ∷ cs) (q, qs) z = left-after (c .left) cs qs (q .taken z) ∙ ap (λ (v : Saved). after v (givenTo cs)) (left-is x c q z)
+
+still-taken : (x : Lent) (cs : List Call) → Calls x cs → refusedIn x ≡ 0 → refusedIn (leftBy x cs) ≡ 0
+still-taken x [] q z = z
+still-taken x (c ∷ cs) (q, qs) z = still-taken (c .left) cs qs (q .taken z)
 
 pub calls-are-run : CallsAreRun
-calls-are-run s h calls q = record {
-  entries = entries-run s h calls q;
-  lines = sym (map-map line entryOf calls) ∙ ap (map line) (entries-run s h calls q);
-  left = left-after s h calls q;
-}
+calls-are-run x calls q z = (
+  record {
+    entries = entries-run x calls q z;
+    lines = sym (map-map line entryOf calls) ∙ ap (map line) (entries-run x calls q z);
+    left = left-after x calls q z;
+  },
+  still-taken x calls q z,
+)
   where
     line : Entry → Line
     line e = answerLine (e .answer)
 
-pub accepted-is-decided : AcceptedIsDecided
-accepted-is-decided c = go (c .answer .verdict)
-  where
-    go : (x : Verdict) → eqb (lineOf x .refusal) 0 ≡ decides x
-    go (verdict.Decided d) = refl
-    go (verdict.Refused r) = never-zero r
+pub refused-stays : RefusedStays
+refused-stays x [] q n = tt
+refused-stays x (c ∷ cs) (q, qs) n =
+    let refusal : c .line .refusal ≡ refusedIn x = ap (λ (l : Line). l .refusal) (q .line ∙ ap answerLine (answer-no x (c .bytes) n)) in
+    let same : c .left ≡ x = q .still (λ z. n (sym (ap (λ (a : Answer). a .refusal) (answer-no x (c .bytes) n)) ∙ z)) in
+    (refusal, same, refused-stays x cs (subst (λ (y : Lent). Calls y cs) same qs) n)
 
 -- ---- demand 3
 
--- an accepted event shows that the state from which the run started is not refused
-shown : (v : Saved) (before : List Entry) (e : Entry) (rest : List Entry) → Log v (before ++ (e ∷ rest)) → accepted e ≡ true
-    → refusedState (v .state) (v .history) ≡ 0
-shown v [] e rest l y = of-fit (v .state) (v .history) (Answers.accepted v (e .event) (sym (accepted-is v e (l .0)) ∙ y) .fit)
-shown v (x ∷ before) e rest l y = go (accepted x) refl (shown (x .answer .after) before e rest (l .1) y)
-  where
-    go : (z : Bool) → accepted x ≡ z → refusedState (x .answer .after .state) (x .answer .after .history) ≡ 0
-        → refusedState (v .state) (v .history) ≡ 0
-    go true q k = of-fit (v .state) (v .history) (Answers.accepted v (x .event) (sym (accepted-is v x (l .0)) ∙ q) .fit)
-    go false q k = subst (λ (w : Saved). refusedState (w .state) (w .history) ≡ 0) (when-refused v x (l .0) q) k
+pub lengths : (x : Lent) → Sizes x → Lengths (stateIn x)
+lengths x s = record {
+  shares = table-length _ 16;
+  used = map-length (x .used) ∙ s .used;
+  threads = threads-length (x .exists) (x .ready) (x .partitions) (x .priorities) (x .masks);
+  queue = s .queue;
+}
+
+-- no call on what is refused is accepted
+none-accepted : (x : Lent) (cs : List Call) → Unmoved x cs → refusedIn x ≢ 0 → all (λ e. not (Demand3.accepted e)) (asEntries cs) ≡ true
+unfolding all
+none-accepted x [] u n = refl
+none-accepted x (c ∷ cs) (r, _, u) n =
+    let here : not (eqb (c .line .refusal) 0) ≡ true = rw (r, ne-eqb (refusedIn x) 0 n) refl in
+    and here (none-accepted x cs u n)
+
+none-there : (before : List Entry) (o : Entry) (rest : List Entry) → all (λ i. not (Demand3.accepted i)) (before ++ (o ∷ rest)) ≡ true → Demand3.accepted o ≡ true → ⊥
+unfolding all
+none-there before o rest none taken =
+    let f : Entry → Bool = λ i. not (Demand3.accepted i) in
+    let (_, last) = both (all f before) (all f (o ∷ rest)) (sym (all-append f before (o ∷ rest)) ∙ none) in
+    let (shut, _) = both (not (Demand3.accepted o)) (all f rest) last in
+    clash taken (not-true (Demand3.accepted o) shut)
+
+abbrev is-nil : List Entry → Bool
+is-nil [] = true
+is-nil (_ ∷ _) = false
+
+nothing-there : (l : List Entry) (o : Entry) (r : List Entry) → [] ≡ l ++ (o ∷ r) → ⊥
+nothing-there [] o r i = clash (sym (ap is-nil i)) refl
+nothing-there (_ ∷ _) o r i = clash (sym (ap is-nil i)) refl
 
 -- DEMAND 3
 pub door-demand3 : DoorDemand3
-door-demand3 s h len calls q before opening within closing later e st p inside w =
-    let (opened, _) = both (accepted opening) _ (st .opens) in
-    demand3 v len (shown v before opening (within ++ (closing ∷ later)) (subst (Log v) is-run (run-log v (bytesOf calls))) opened)
-    (bytesOf calls) before opening within closing later is-run st p inside w
+door-demand3 x [] q before opening within closing later e st = absurd (nothing-there before opening _ e)
+door-demand3 x (c ∷ cs) q before opening within closing later e st = go (ℕ-discrete (refusedIn x) 0)
   where
-    v : Saved
-    v = saved s h
+    calls : List Call
+    calls = c ∷ cs
 
-    is-run : run v (bytesOf calls) ≡ before ++ (opening ∷ (within ++ (closing ∷ later)))
-    is-run = sym (entries-run s h calls q) ∙ e
+    Promised : Type 0
+    Promised =
+        (p : ℕ) → p < stateIn x .settings .count
+        → ((n : ℕ) → n ≤ length within → Demand3.waits (stateIn x) (before ++ (opening ∷ take n within)) p ≡ true)
+        → Demand3.bound (stateIn x .settings) p ≤ℤ pos (Demand3.chargedTo p (Demand3.lastOf opening) (within ++ (closing ∷ [])))
+
+    go : Dec (refusedIn x ≡ 0) → Promised
+    go (yes z) =
+        demand3 (savedIn x) (lengths x (q .0 .sizes)) (accepted (Lent.settingsOf x) (x .used) (clockOf x) (x .exists) (x .ready) (x .partitions) (x .priorities) (x .masks) (x .queue) (x .history) z .2)
+        (givenTo calls) before opening within closing later (sym (entries-run x calls q z) ∙ e) st
+    go (no n) =
+        let none = subst (λ (l : List Entry). all (λ i. not (Demand3.accepted i)) l ≡ true) e (none-accepted x calls (refused-stays x calls q n) n) in
+        let (opened, _) = both (Demand3.accepted opening) (eqb (kindOf (opening .event)) tick) (st .opens) in
+        absurd (none-there before opening (within ++ (closing ∷ later)) none opened)
 
 -- ---- from an accepted start
 
-module _ (sheet lent : List ℕ) (r : Started) (h : List ℕ) (calls : List Call) (k : Session sheet lent r h calls) where
+module _ (x : Lent) (sheet : List ℕ) (y : Lent) (calls : List Call) (k : Session x sheet y calls) where
   abbrev c : Settings
   c = settingsOf sheet
 
-  accepted-start : Doors.refusedStart sheet lent ≡ 0
-  unfolding Doors.start
-  accepted-start = sym (k .begun .refusal) ∙ ap outcomeOf (k .taken)
+  abbrev h : List ℕ
+  h = x .history
 
-  from-fresh : saved (r .state) h ≡ fresh c lent
-  unfolding Doors.start
-  from-fresh = k .begun .saved ∙ rw accepted-start
+  accepted-start : refusedStart sheet h ≡ 0
+  accepted-start = sym (k .begun .refusal)
 
-  fresh-run : run (fresh c lent) (bytesOf calls) ≡ entriesOf calls
-  fresh-run = ap (λ (v : Saved). run v (bytesOf calls)) (sym from-fresh) ∙ sym (entries-run (r .state) h calls (k .called))
+  from-fresh : savedIn y ≡ fresh c h
+  from-fresh = k .begun .after refl
 
-  fresh-after : after (fresh c lent) (bytesOf calls) ≡ leftBy (r .state) h calls
-  fresh-after = ap (λ (v : Saved). after v (bytesOf calls)) (sym from-fresh) ∙ sym (left-after (r .state) h calls (k .called))
+  fresh-run : run (fresh c h) (givenTo calls) ≡ asEntries calls
+  fresh-run = ap (λ (v : Saved). run v (givenTo calls)) (sym from-fresh) ∙ sym (entries-run y calls (k .called) (k .begun .taken refl))
 
-  kept : keep accepted (run (fresh c lent) (bytesOf calls)) ≡ entriesOf (acceptedCalls calls)
-  kept =
-      ap (keep accepted) fresh-run ∙ keep-map accepted entryOf calls
-      ∙ ap (λ (f : Call → Bool). entriesOf (keep f calls)) (fun-ext accepted-is-decided)
+  fresh-after : after (fresh c h) (givenTo calls) ≡ savedIn (leftBy y calls)
+  fresh-after = ap (λ (v : Saved). after v (givenTo calls)) (sym from-fresh) ∙ sym (left-after y calls (k .called) (k .begun .taken refl))
 
-  kept-bytes : acceptedOf (fresh c lent) (bytesOf calls) ≡ bytesOf (acceptedCalls calls)
+  kept : keep Demand3.accepted (run (fresh c h) (givenTo calls)) ≡ asEntries (acceptedCalls calls)
+  kept = ap (keep Demand3.accepted) fresh-run ∙ keep-map Demand3.accepted entryOf calls
+
+  kept-bytes : acceptedOf (fresh c h) (givenTo calls) ≡ givenTo (acceptedCalls calls)
   unfolding acceptedOf
   kept-bytes = ap (map (λ (e : Entry). e .event)) kept ∙ map-map (λ (e : Entry). e .event) entryOf (acceptedCalls calls)
 
-  pub account-here : Accounted c lent (reverse (bytesOf (acceptedCalls calls))) (leftBy (r .state) h calls)
+  pub account-here : Accounted c h (reverse (givenTo (acceptedCalls calls))) (savedIn (leftBy y calls))
   account-here =
-      subst (λ (v : Saved). Accounted c lent (reverse (bytesOf (acceptedCalls calls))) v) fresh-after
-      (subst (λ (es : List (List ℕ)). Accounted c lent (reverse es) (after (fresh c lent) (bytesOf calls))) kept-bytes
-      (account sheet lent accepted-start (bytesOf calls)))
+      subst (λ (v : Saved). Accounted c h (reverse (givenTo (acceptedCalls calls))) v) fresh-after
+      (subst (λ (es : List (List ℕ)). Accounted c h (reverse es) (after (fresh c h) (givenTo calls))) kept-bytes
+      (account sheet h accepted-start (givenTo calls)))
 
-  pub answers-here : map (λ x. chosenBy (lineOf (x .answer .verdict))) (acceptedCalls calls)
-      ≡ decisionsFrom c [] (bytesOf (acceptedCalls calls))
+  pub answers-here : map (λ i. chosenBy (i .line)) (acceptedCalls calls) ≡ decisionsFrom c [] (givenTo (acceptedCalls calls))
   answers-here =
       sym (map-map (λ (e : Entry). e .answer .decision) entryOf (acceptedCalls calls))
       ∙ ap (map (λ (e : Entry). e .answer .decision)) (sym kept)
-      ∙ answers sheet lent accepted-start (bytesOf calls)
+      ∙ answers sheet h accepted-start (givenTo calls)
       ∙ ap (decisionsFrom c []) kept-bytes
 
-  pub totals-here : (p : ℕ) → p < c .count → used (leftBy (r .state) h calls .state) p ≡ sum (take (W c) (ledgerOf p (entriesOf calls)))
+  pub totals-here : (p : ℕ) → p < c .count → used (stateIn (leftBy y calls)) p ≡ sum (take (W c) (ledgerOf p (asEntries calls)))
   totals-here p i =
       ap (λ (v : Saved). used (v .state) p) (sym fresh-after)
-      ∙ totals sheet lent accepted-start (bytesOf calls) p i
+      ∙ totals sheet h accepted-start (givenTo calls) p i
       ∙ ap (λ (es : List Entry). sum (take (W c) (ledgerOf p es))) fresh-run
-
-  lengths : Lengths (r .state)
-  lengths = subst (λ (v : Saved). Lengths (v .state)) (sym from-fresh) (start-good sheet lent accepted-start .lengths)
-
-  pub demand3-here : Served (r .state) (entriesOf calls)
-  demand3-here = door-demand3 (r .state) h lengths calls (k .called)
 
 -- DEMAND 2, the account, the answers and the ledger
 pub door-account : DoorAccount
-door-account sheet lent r h calls k = account-here sheet lent r h calls k
+door-account x sheet y calls k = account-here x sheet y calls k
 
 pub door-answers : DoorAnswers
-door-answers sheet lent r h calls k = answers-here sheet lent r h calls k
+door-answers x sheet y calls k = answers-here x sheet y calls k
 
 pub door-totals : DoorTotals
-door-totals sheet lent r h calls k = totals-here sheet lent r h calls k
-
-pub start-demand3 : StartDemand3
-start-demand3 sheet lent r h calls k = demand3-here sheet lent r h calls k
+door-totals x sheet y calls k = totals-here x sheet y calls k

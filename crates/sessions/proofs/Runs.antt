@@ -1,162 +1,244 @@
 -- A run of many events does what calls of the event door do, one for each record that it takes.
-use mathlib.Core.Path.{_≡_, refl, sym, ap, _∙_}
-use Prim.Native.Nat.{ℕ, _*_}
-use mathlib.Core.Bool.{Bool, true, false, not, cond, _&&_}
-use mathlib.Core.List.{List, [], _∷_, _++_}
-use mathlib.Core.Option.{Option, none, some}
-use lib.ListN.{length, drop}
-use lib.Dec.{eqb, ltb}
-use Rattle.lists.specs.Lists.{any}
-use Rattle.refusals.specs.Refusals.{outcomeOf}
-use Rattle.refusals.specs.declared.Refusal.the-variants.{Buffer, Unsound, Kind, Elapsed, Thread, Partition, Readiness, Length}
-use Rattle.refusals.specs.declared.Outcome.the-variants.{Accepted, Refused}
-use Rattle.sheet.specs.Settings.{budget, withinLimits}
-use Rattle.model.specs.State.{idle, wanted}
-use Rattle.model.specs.Sound.{sound}
-use Rattle.model.specs.Event.{wellFormed, tooLong, wrongThread, wrongPlace, wrongReadiness, refusedState, refusedEvent, refused}
-use Rattle.model.specs.Policy.{partitions, competing, hasBudget, mode, winner, chosen, decideFor, decide}
-use Rattle.model.specs.Step.{Saved, saved, apply, answer}
+use mathlib.Core.Logic.{_≢_}
+use mathlib.Core.Path.{_≡_, refl, sym, ap, ap₂, subst, _∙_}
+use Prim.Native.Nat.{ℕ, zero, suc, _*_}
+use mathlib.Core.Bool.{Bool, true, false, cond}
+use mathlib.Core.List.{List, [], _∷_, _++_, map}
+use lib.ListN.{length, getD, drop, length-map}
+use lib.Dec.{eqb, leb}
+use lib.Seq.{ext-getD}
+use borrow.Author.Tests.{ne-eqb}
+use native.Mathlib.Decide.{ℕ-discrete}
+use Rattle.lists.specs.Lists.{below}
+use Rattle.lists.proofs.Tests.{clash}
+use Rattle.lists.proofs.All.{below-all}
+use Rattle.lists.proofs.Tables.{table-length, table-at}
+use Rattle.units.specs.declared.Cycles.{Cycles}
+use Rattle.model.specs.State.{absent, Thread}
+use Rattle.model.specs.Arrays.{flag, cycles, threadIn, threadsIn, plain}
+use Rattle.model.specs.Typed.{Lengths}
+use Rattle.model.specs.Event.{refusedState, refused}
+use Rattle.model.specs.Policy.{decide}
+use Rattle.model.specs.Step.{Saved, apply, settle, Answer, answer, nothing}
 use Rattle.model.specs.Run.{run, after}
-use Rattle.model.specs.Answers.{modeOf, decidedOf, lineOf, textOf}
-use Rattle.model.specs.declared.State.{State}
-use Rattle.model.specs.declared.Mode.the-variants.{Idle, FreeTime, Underload, AtLimit}
-use Rattle.model.specs.declared.Decision.{Decision}
-use Rattle.scheduler.specs.Answers.{Answered}
-use Rattle.batches.specs.Batches.{recordsOf, linesOf}
-use Rattle.runs.specs.Runs.{Ran, Finished, takenBy, ran, linesAfter}
-use Rattle.sessions.specs.Calls.{Call, Calls, leftBy, bytesOf, entriesOf, callLines, AsCalls, RunIsCalls}
-use Rattle.scheduler.specs.declared.Answer.{Answer}
-use Rattle.runs.specs.declared.Ended.{Ended}
-use Rattle.scheduler.proofs.Laws.{answer-no, answer-yes}
-use Rattle.batches.proofs.Longer.{nothing-taken, nothing-written}
-use Rattle.sessions.proofs.Calls.{calls-are-run}
+use Rattle.model.specs.Answers.{answerLine, textOf}
+use Rattle.model.specs.Lent as Lent
+use Rattle.model.specs.Lent.{Lent, lent, clockOf, stateIn, savedIn, refusedIn}
+use Rattle.model.specs.Stream.{eventsIn, linesOf}
+use Rattle.model.specs.Doors.{takenBy, answerTo, afterRun, linesAfter}
+use Rattle.model.proofs.Accepted.{fit-of, of-fit}
+use Rattle.model.proofs.Flags.{accepted, as-state}
+use Rattle.model.proofs.Table.{flag-on}
+use Rattle.invariants.proofs.Answered.{Good, good-answer}
+use Rattle.doors.specs.Doors.{Sizes, Answered, Ran}
+use Rattle.sessions.specs.Calls.{Call, Calls, leftBy, givenTo, asEntries, callLines, takenOf, AsCalls, RunIsCalls}
+use Rattle.sessions.proofs.Calls.{answer-yes, answer-no, lengths, calls-are-run}
+
+-- ---- every state can be lent: arrays that stand for it
+
+abbrev number : (Thread → ℕ) → List Thread → List ℕ
+number f ts = map f ts
+
+-- settings as in x
+abbrev stored : Lent → Saved → Lent
+stored x v =
+    let s = v .state in
+    lent (x .settings) (x .shares) (map (λ c. c .0) (s .used)) (s .stamp ∷ s .slot .0 ∷ s .since .0 ∷ s .queued ∷ s .running ∷ [])
+    (number (λ t. flag (t .exists)) (s .threads)) (number (λ t. flag (t .ready)) (s .threads)) (number (λ t. t .partition) (s .threads))
+    (number (λ t. t .priority) (s .threads)) (number (λ t. t .mask) (s .threads)) (s .queue) (v .history)
+
+used-back : (l : List Cycles) → map cycles (map (λ c. c .0) l) ≡ l
+used-back [] = refl
+used-back (x ∷ l) = ap (λ (k : List Cycles). x ∷ k) (used-back l)
+
+number-at : (f : Thread → ℕ) → f absent ≡ 0 → (ts : List Thread) (i : ℕ) → getD (number f ts) i 0 ≡ f (getD ts i absent)
+number-at f z [] i = sym z
+number-at f z (t ∷ ts) zero = refl
+number-at f z (t ∷ ts) (suc i) = number-at f z ts i
+
+module _ (ts : List Thread) (h : length ts ≡ 64) where
+  abbrev e : List ℕ
+  e = number (λ t. flag (t .exists)) ts
+
+  abbrev r : List ℕ
+  r = number (λ t. flag (t .ready)) ts
+
+  abbrev p : List ℕ
+  p = number (λ t. t .partition) ts
+
+  abbrev n : List ℕ
+  n = number (λ t. t .priority) ts
+
+  abbrev m : List ℕ
+  m = number (λ t. t .mask) ts
+
+  thread-back : (i : ℕ) → threadIn e r p n m i ≡ getD ts i absent
+  thread-back i = λ j. record {
+    exists = (ap (λ (k : ℕ). eqb k 1) (number-at (λ t. flag (t .exists)) refl ts i) ∙ flag-on (getD ts i absent .exists)) j;
+    ready = (ap (λ (k : ℕ). eqb k 1) (number-at (λ t. flag (t .ready)) refl ts i) ∙ flag-on (getD ts i absent .ready)) j;
+    partition = number-at (λ t. t .partition) refl ts i j;
+    priority = number-at (λ t. t .priority) refl ts i j;
+    mask = number-at (λ t. t .mask) refl ts i j;
+  }
+
+  threads-back : threadsIn e r p n m ≡ ts
+  unfolding threadsIn
+  threads-back =
+      ext-getD absent _ ts (table-length (threadIn e r p n m) 64 ∙ sym h) (λ i b.
+      table-at (threadIn e r p n m) 64 i absent (rw (table-length (threadIn e r p n m) 64) at b) ∙ thread-back i)
+
+flags-plain : (f : Thread → Bool) → f absent ≡ false → (ts : List Thread) → plain (number (λ t. flag (f t)) ts) ≡ true
+unfolding plain
+flags-plain f z ts = below-all (λ i. leb (getD (number (λ t. flag (f t)) ts) i 0) 1) 64 (λ i b. rw (number-at (λ t. flag (f t)) (ap flag z) ts i) (one (f (getD ts i absent))))
+  where
+    one : (b : Bool) → leb (flag b) 1 ≡ true
+    one true = refl
+    one false = refl
+
+stored-back : (x : Lent) (v : Saved) → Lengths (v .state) → v .state .settings ≡ Lent.settingsOf x → savedIn (stored x v) ≡ v
+stored-back x v l e = λ i. record {
+  state = record {
+    settings = sym e i;
+    used = used-back (v .state .used) i;
+    stamp = v .state .stamp;
+    slot = v .state .slot;
+    since = v .state .since;
+    threads = threads-back (v .state .threads) (l .threads) i;
+    queue = v .state .queue;
+    queued = v .state .queued;
+    running = v .state .running;
+  };
+  history = v .history;
+}
+
+kept-after : (v : Saved) (b : List ℕ) → answer v b .refusal ≢ 0 → answer v b .after ≡ v
+unfolding answer
+kept-after v b = go (eqb (refused (v .state) (v .history) b) 0)
+  where
+    done : Answer
+    done = record { refusal = 0; decision = decide (apply v b .state); after = settle (apply v b) }
+
+    same : Answer
+    same = record { refusal = refused (v .state) (v .history) b; decision = nothing; after = v }
+
+    go : (z : Bool) → (cond {A = Answer} z done same) .refusal ≢ 0 → (cond {A = Answer} z done same) .after ≡ v
+    go true n = absurd (n refl)
+    go false n = refl
+
+abbrev is-empty : List (List ℕ) → Bool
+is-empty [] = true
+is-empty (_ ∷ _) = false
+
+no-cons : {b : List ℕ} {bs : List (List ℕ)} → b ∷ bs ≡ [] → ⊥
+no-cons e = clash (ap is-empty e) refl
+
+no-events : (bytes : List ℕ) → eventsIn bytes 0 ≡ []
+unfolding below
+no-events bytes = refl
 
 -- ---- every event has an answer that the contract of `event` allows
 
--- n is f of something
-abbrev Reached : {A : Type 0} → (A → ℕ) → ℕ → Type 0
-Reached {A} f n = (a : A) × (f a ≡ n)
-
-either : {A : Type 0} (f : A → ℕ) (b : Bool) (m n : ℕ) → Reached f m → Reached f n → Reached f (cond b m n)
-either f true m n x y = x
-either f false m n x y = y
-
-mode-there : (s : State) → Reached modeOf (mode s)
-unfolding mode
-mode-there s =
-    either modeOf (not (any (competing s) (partitions s))) _ _ (Idle, refl)
-    (either modeOf (any (λ p. not (eqb (budget (s .settings) p) 0) && not (competing s p)) (partitions s)) _ _ (FreeTime, refl)
-    (either modeOf (any (λ p. competing s p && hasBudget s p) (partitions s)) _ _ (Underload, refl) (AtLimit, refl)))
-
-decision-there : (s : State) → (d : Decision) × (decidedOf d ≡ decide s)
-unfolding decide decideFor
-decision-there s = go (winner s)
+answer-there : (x : Lent) → Sizes x → (b : List ℕ) → (y : Lent) × Answered x b (answerLine (answerTo x b)) y × Sizes y
+answer-there x s b = go (ℕ-discrete (refusedIn x) 0)
   where
-    go : (w : Option ℕ) → (d : Decision) × (decidedOf d ≡ decideFor s w)
-    go none = (record { mode = Idle; partition = 0; thread = idle }, refl)
-    go (some p) =
-        let (m, e) = mode-there s in
-        (record { mode = m; partition = p; thread = chosen s p }, ap (λ (n : ℕ). record { mode = n; partition = p; thread = chosen s p }) e)
+    go : Dec (refusedIn x ≡ 0) → (y : Lent) × Answered x b (answerLine (answerTo x b)) y × Sizes y
+    go (no n) = (
+      x,
+      record { line = refl; after = sym (ap (λ (a : Answer). a .after) (answer-no x b n)); taken = λ z. z; still = λ _. refl; sizes = s },
+      s,
+    )
+    go (yes z) = accepts (ℕ-discrete (answerTo x b .refusal) 0)
+      where
+        good : Good (Lent.settingsOf x) (answer (savedIn x) b .after)
+        good =
+            let (_, _, t) = accepted (Lent.settingsOf x) (x .used) (clockOf x) (x .exists) (x .ready) (x .partitions) (x .priorities) (x .masks) (x .queue) (x .history) z in
+            good-answer (Lent.settingsOf x) (savedIn x) b (record { fit = fit-of (stateIn x) (x .history) t; lengths = lengths x s; settings = refl })
 
-number-there : (s : State) (h b : List ℕ) → Reached outcomeOf (refused s h b)
-unfolding refused refusedState refusedEvent
-number-there s h b = either outcomeOf (not (eqb (refusedState s h) 0)) _ _ by-state by-event
-  where
-    by-state : Reached outcomeOf (refusedState s h)
-    by-state =
-        either outcomeOf (not (withinLimits (s .settings))) _ _ (Refused Unsound, refl)
-        (either outcomeOf (ltb (length h) (wanted s)) _ _ (Refused Buffer, refl)
-        (either outcomeOf (not (sound s h)) _ _ (Refused Unsound, refl) (Accepted, refl)))
+        v : Saved
+        v = answer (savedIn x) b .after
 
-    by-event : Reached outcomeOf (refusedEvent s b)
-    by-event =
-        either outcomeOf (not (eqb (length b) 12)) _ _ (Refused Length, refl)
-        (either outcomeOf (not (wellFormed b)) _ _ (Refused Kind, refl)
-        (either outcomeOf (tooLong s b) _ _ (Refused Elapsed, refl)
-        (either outcomeOf (wrongThread s b) _ _ (Refused Thread, refl)
-        (either outcomeOf (wrongPlace s b) _ _ (Refused Partition, refl)
-        (either outcomeOf (wrongReadiness s b) _ _ (Refused Readiness, refl) (Accepted, refl))))))
+        back : savedIn (stored x v) ≡ v
+        back = stored-back x v (good .lengths) (good .settings)
 
-answer-there : (s : State) (h b : List ℕ) → (r : Answer) × (h′ : List ℕ) × Answered r h′ (answer (saved s h) b)
-answer-there s h b = go (number-there s h b)
-  where
-    go : Reached outcomeOf (refused s h b) → (r : Answer) × (h′ : List ℕ) × Answered r h′ (answer (saved s h) b)
-    go (Accepted, e) =
-        let y : Saved = apply (saved s h) b in
-        let (d, f) = decision-there (y .state) in
-        (_, _, answer-yes s h b (sym e) y d refl f)
-    go (Refused n, e) = (_, _, answer-no s h b n (sym e))
+        sizes : Sizes (stored x v)
+        sizes = record { used = length-map (v .state .used) (λ c. c .0) ∙ good .lengths .used; queue = good .lengths .queue }
 
-calls-there : (s : State) (h : List ℕ) (bs : List (List ℕ)) → (calls : List Call) × Calls s h calls × (bytesOf calls ≡ bs)
-calls-there s h [] = ([], tt, refl)
-calls-there s h (b ∷ bs) =
-    let (r, h′, q) = answer-there s h b in
-    let (cs, qs, e) = calls-there (r .state) h′ bs in
-    (record { bytes = b; answer = r; history = h′ } ∷ cs, (q, qs), ap (λ (l : List (List ℕ)). b ∷ l) e)
+        fine : refusedIn (stored x v) ≡ 0
+        fine =
+            as-state (Lent.settingsOf x) (stored x v .used) (clockOf (stored x v)) (stored x v .exists) (stored x v .ready) (stored x v .partitions) (stored x v .priorities) (stored x v .masks) (stored x v .queue) (v .history)
+            (flags-plain (λ t. t .exists) refl (v .state .threads)) (flags-plain (λ t. t .ready) refl (v .state .threads))
+            ∙ subst (λ (w : Saved). refusedState (w .state) (w .history) ≡ 0) (sym back) (of-fit (v .state) (v .history) (good .fit))
 
--- ---- what a run answers and writes, from the records that it takes
+        accepts : Dec (answerTo x b .refusal ≡ 0) → (y : Lent) × Answered x b (answerLine (answerTo x b)) y × Sizes y
+        accepts (yes a) = (
+          stored x v,
+          record { line = refl; after = back ∙ sym (ap (λ (w : Answer). w .after) (answer-yes x b z)); taken = λ _. fine; still = λ k. absurd (k a); sizes = s },
+          sizes,
+        )
+        accepts (no a) = (x, record { line = refl; after = sym (refused-after a); taken = λ k. k; still = λ _. refl; sizes = s }, s)
+          where
+            refused-after : answerTo x b .refusal ≢ 0 → answerTo x b .after ≡ savedIn x
+            refused-after k = ap (λ (w : Answer). w .after) (answer-yes x b z) ∙ kept-after (savedIn x) b (λ i. k (ap (λ (w : Answer). w .refusal) (answer-yes x b z) ∙ i))
 
-module _ (v : Saved) (events out : List ℕ) where
-  abbrev took : Ran
-  took = ran v events (length out)
-
-  -- after k records it stands at `at` and has written `lines`
-  pub record Stands (k : ℕ) (at : Saved) (lines : List ℕ) : Type 0 where
-    pub state : at ≡ after v (recordsOf events k)
-    pub written : lines ≡ linesOf (run v (recordsOf events k)) ++ drop (12 * k) out
-
-  stands : Stands (took .taken) (took .after) (linesAfter v events out)
-  unfolding ran linesAfter
-  stands = go (eqb (refusedState (v .state) (v .history)) 0)
-    where
-      n : ℕ
-      n = takenBy events (length out)
-
-      went : Ran
-      went = record { refusal = 0; taken = n; after = after v (recordsOf events n) }
-
-      stayed : Ran
-      stayed = record { refusal = refusedState (v .state) (v .history); taken = 0; after = v }
-
-      go : (z : Bool) → Stands (cond z went stayed .taken) (cond z went stayed .after)
-          (cond z (linesOf (run v (recordsOf events n)) ++ drop (12 * n) out) out)
-      go true = record { state = refl; written = refl }
-      go false = record { state = nothing-taken v events; written = nothing-written v events out }
+calls-there : (x : Lent) → Sizes x → (bs : List (List ℕ)) → (calls : List Call) × Calls x calls × (givenTo calls ≡ bs)
+calls-there x s [] = ([], tt, refl)
+calls-there x s (b ∷ bs) =
+    let (y, q, s′) = answer-there x s b in
+    let (cs, qs, e) = calls-there y s′ bs in
+    (record { bytes = b; line = answerLine (answerTo x b); left = y } ∷ cs, (q, qs), ap (λ (l : List (List ℕ)). b ∷ l) e)
 
 -- ---- a run is calls
 
-lines-are : (cs : List Call) → callLines cs ≡ linesOf (entriesOf cs)
+lines-are : (cs : List Call) → callLines cs ≡ linesOf (asEntries cs)
 unfolding linesOf
 lines-are [] = refl
-lines-are (c ∷ cs) = ap (λ (l : List ℕ). textOf (lineOf (c .answer .verdict)) ++ l) (lines-are cs)
+lines-are (c ∷ cs) = ap (λ (l : List ℕ). textOf (c .line) ++ l) (lines-are cs)
 
-as-calls : (s : State) (h events out : List ℕ) (r : Ended) (h′ out′ : List ℕ)
-    → Finished r h′ (ran (saved s h) events (length out)) → out′ ≡ linesAfter (saved s h) events out
-    → (calls : List Call) → Calls s h calls → bytesOf calls ≡ recordsOf events (r .taken) → AsCalls s h events out r h′ out′ calls
-as-calls s h events out r h′ out′ f l calls q e = record {
-  called = q;
-  records = e;
-  left = left ∙ ap (after v) e ∙ sym (here .state) ∙ sym (f .after);
-  lines = l ∙ here .written ∙ ap (λ (k : List ℕ). k ++ drop (12 * r .taken) out) (sym written);
-}
-  where
-    v : Saved
-    v = saved s h
+module _ (x : Lent) (events out : List ℕ) (i : ℕ) (y : Lent) (out′ : List ℕ) (d : Ran x events out i y out′) where
+  as-calls : (calls : List Call) → Calls x calls → givenTo calls ≡ eventsIn events (takenOf i events out) → AsCalls x events out i y out′ calls
+  unfolding afterRun linesAfter
+  as-calls calls q e = go (ℕ-discrete (refusedIn x) 0)
+    where
+      v : Saved
+      v = savedIn x
 
-    here : Stands v events out (r .taken) (ran v events (length out) .after) (linesAfter v events out)
-    here = rw (f .taken) (stands v events out)
+      go : Dec (refusedIn x ≡ 0) → AsCalls x events out i y out′ calls
+      go (yes z) =
+          let n = takenBy events (length out) in
+          let zero-is : i ≡ 0 = d .refusal ∙ z in
+          let some : takenOf i events out ≡ n = rw zero-is refl in
+          let is = calls-are-run x calls q z .0 in
+          let given : givenTo calls ≡ eventsIn events n = e ∙ ap (eventsIn events) some in
+          let state : savedIn y ≡ after v (eventsIn events n) = rw z at (d .after) in
+          let written : out′ ≡ linesOf (run v (eventsIn events n)) ++ drop (12 * n) out = rw z at (d .written) in
+          record {
+            called = q;
+            records = e;
+            left = is .left ∙ ap (after v) given ∙ sym state;
+            lines = written ∙ ap₂ (λ (a b : List ℕ). a ++ b) (sym (lines-are calls ∙ ap linesOf (is .entries ∙ ap (run v) given))) (ap (λ (k : ℕ). drop (12 * k) out) (sym some));
+          }
+      go (no k) =
+          let none : takenOf i events out ≡ 0 = rw (d .refusal, ne-eqb (refusedIn x) 0 k) refl in
+          let empty : givenTo calls ≡ [] = e ∙ ap (eventsIn events) none ∙ no-events events in
+          let same : y ≡ x = d .still k in
+          let kept : out′ ≡ out = d .written ∙ rw (ne-eqb (refusedIn x) 0 k) refl in
+          record {
+            called = q;
+            records = e;
+            left = ap savedIn (no-calls calls empty) ∙ ap savedIn (sym same);
+            lines = kept ∙ ap₂ (λ (a : List ℕ) (b : ℕ). a ++ drop (12 * b) out) (sym (no-lines calls empty)) (sym none);
+          }
+        where
+          no-calls : (cs : List Call) → givenTo cs ≡ [] → leftBy x cs ≡ x
+          no-calls [] f = refl
+          no-calls (c ∷ cs) f = absurd (no-cons f)
 
-    entries : entriesOf calls ≡ run v (bytesOf calls)
-    entries = calls-are-run s h calls q .entries
-
-    left : leftBy s h calls ≡ after v (bytesOf calls)
-    left = calls-are-run s h calls q .left
-
-    written : callLines calls ≡ linesOf (run v (recordsOf events (r .taken)))
-    written = lines-are calls ∙ ap linesOf (entries ∙ ap (run v) e)
+          no-lines : (cs : List Call) → givenTo cs ≡ [] → callLines cs ≡ []
+          no-lines [] f = refl
+          no-lines (c ∷ cs) f = absurd (no-cons f)
 
 pub run-is-calls : RunIsCalls
-run-is-calls s h events out r h′ out′ f l =
-    let any = as-calls s h events out r h′ out′ f l in
-    let (calls, q, e) = calls-there s h (recordsOf events (r .taken)) in
+run-is-calls x events out i y out′ d =
+    let any = as-calls x events out i y out′ d in
+    let (calls, q, e) = calls-there x (d .sizes) (eventsIn events (takenOf i events out)) in
     ((calls, any calls q e), any)

@@ -1,17 +1,23 @@
-// Whether a state is sound beside a history ("Sound means" of document 01), for any state and any history whatever.
-use model::State;
+// Whether a state is sound beside a history ("Sound means" of document 01), for whatever bytes its arrays and numbers hold.
+pub mod queue;
+pub mod records;
+pub mod sums;
+
+use model::Clock;
 use refusals::Outcome;
 use refusals::Refusal;
 use sheet::Settings;
+use threads::masks;
 ghost use mathlib.Core.Path.{_≡_};
-ghost use mathlib.Core.Bool.{true};
-ghost use Prim.Native.Nat.{_≤_};
+ghost use mathlib.Core.Bool.{_&&_, true};
+ghost use Prim.Native.Nat.{_*_, _≤_};
 ghost use lib.ListN.{length};
 ghost use Rattle.refusals.specs.Refusals.{outcomeOf};
-ghost use Rattle.sheet.specs.Settings.{withinLimits};
-ghost use Rattle.model.specs.State.{wanted};
+ghost use Rattle.sheet.specs.Settings.{W, withinLimits};
+ghost use Rattle.model.specs.Arrays.{stateOf, plain};
 ghost use Rattle.model.specs.Sound as Model;
-ghost use Rattle.model.specs.Event.{refusedState};
+ghost use Rattle.model.specs.Lent.{refusedArrays};
+ghost use Rattle.soundness.specs.Refused.{restZero, runningFits};
 
 // The settings are within the sheet's limits.
 fn within_limits(settings: Settings) -> bool
@@ -23,51 +29,114 @@ fn within_limits(settings: Settings) -> bool
     }
 }
 
-// "the running one idle, or in the line and allowed"
-fn sound_running(s: State) -> bool
-    requires { ⌜ s .settings .core ≤ 7 ⌝ }
-    ensures { λ r. ⌜ r ≡ Model.soundRunning s ⌝ }
+// "shares and totals past the last partition all zero"
+fn rest_zero(settings: Settings, used: &[u32; 16]) -> bool
+    ensures { λ r. ⌜ r ≡ restZero settings (now (used .entry)) ⌝ }
 {
-    let t = s.running;
-    if t == 255 {
+    let count = settings.count as usize;
+    let mut ok = true;
+    let mut p: usize = 0;
+    while p < 16 {
+        ok = ok & ((p < count) | ((settings.shares[p].0 == 0) & (used[p] == 0)));
+        p += 1;
+    }
+    ok
+}
+
+// "the running one idle, or in the line and allowed"
+fn running_fits(ready: &[u8; 64], masks: &[u8; 64], running: u32, core: u32) -> bool
+    requires { ⌜ core ≤ 7 ⌝ }
+    ensures { λ r. ⌜ r ≡ runningFits (now (ready .entry)) (now (masks .entry)) running core ⌝ }
+{
+    if running == 255 {
         return true;
     }
-    if 64 <= t {
+    if 64 <= running {
         return false;
     }
-    let at = t as usize;
-    let record = s.threads[at];
-    queue::member(s, t) & roster::allowed(record.mask, s.settings.core)
+    let at = running as usize;
+    let mask = masks[at];
+    (ready[at] == 1) & masks::allowed(mask, core)
 }
 
-// The state is sound beside the history, if its settings are within the limits and the history has room for its rows.
-pub fn sound(s: State, history: &[u32]) -> bool
-    requires { ⌜ (withinLimits (s .settings) ≡ true) × (wanted s ≤ length (now history)) ⌝ }
-    ensures { λ r. ⌜ r ≡ Model.sound s (now (history .entry)) ⌝ }
+// Every flag is 0 or 1 and the state is sound, if its settings are within the limits and the history has room for its rows. The shortest
+// tests come first.
+fn sound(
+    settings: Settings,
+    used: &[u32; 16],
+    exists: &[u8; 64],
+    ready: &[u8; 64],
+    partitions: &[u8; 64],
+    priorities: &[u8; 64],
+    masks: &[u8; 64],
+    queue: &[u8; 64],
+    clock: Clock,
+    history: &[u32],
+) -> bool
+    requires { ⌜ (withinLimits settings ≡ true) × (settings .count * W settings ≤ length (now history)) ⌝ }
+    ensures { λ b. ⌜
+        b ≡ (plain (now (exists .entry)) && plain (now (ready .entry))
+        && Model.sound
+        (stateOf settings (now (used .entry)) clock (now (exists .entry)) (now (ready .entry)) (now (partitions .entry)) (now (priorities .entry)) (now (masks .entry)) (now (queue .entry)))
+        (now (history .entry)))
+        ⌝ }
 {
-    books::sound_rest(s)
-        & books::sound_history(s, history)
-        & roster::sound_threads(s)
-        & readiness::sound_queue(s)
-        & sound_running(s)
+    let few = settings.count as u8;
+    if !records::sound_threads(exists, ready, partitions, priorities, masks, few) {
+        return false;
+    }
+    if !queue::sound_queue(ready, queue, clock.queued) {
+        return false;
+    }
+    let window = settings.window;
+    let count = settings.count as usize;
+    let slot = clock.slot;
+    let since = clock.since;
+    let tick = settings.tick;
+    let most = units::twice(tick);
+    (since.0 <= most.0)
+        & rest_zero(settings, used)
+        & running_fits(ready, masks, clock.running, settings.core)
+        & sums::books_agree(history, used, window, count, slot, most, since)
 }
 
-// What every door that is given a state refuses before all else: 8 for settings outside their limits, because the length wanted is worked
-// out from them; 7 for a history too short; 8 for a state not sound.
-pub fn refused_state(s: State, history: &[u32]) -> Outcome
-    ensures { λ r. ⌜ outcomeOf r ≡ refusedState s (now (history .entry)) ⌝ }
+// What every door that is lent a state refuses before all else: 8 for settings outside their limits, because the length wanted is worked
+// out from them; 7 for a history too short; 8 for a flag above 1 or a state not sound.
+pub fn refused_state(
+    settings: Settings,
+    used: &[u32; 16],
+    exists: &[u8; 64],
+    ready: &[u8; 64],
+    partitions: &[u8; 64],
+    priorities: &[u8; 64],
+    masks: &[u8; 64],
+    queue: &[u8; 64],
+    clock: Clock,
+    history: &[u32],
+) -> Outcome
+    ensures { λ b. ⌜
+        outcomeOf b ≡ refusedArrays settings (now (used .entry)) clock (now (exists .entry)) (now (ready .entry)) (now (partitions .entry)) (now (priorities .entry)) (now (masks .entry)) (now (queue .entry)) (now (history .entry))
+        ⌝ }
 {
-    let settings = s.settings;
-    let wanted = (settings.count as usize) * (settings.window.0 as usize);
-    let within = within_limits(settings);
-    let room = wanted <= history.len();
-    if !within {
+    if !within_limits(settings) {
         return Outcome::Refused(Refusal::Unsound);
     }
-    if !room {
+    let wanted = (settings.count as usize) * (settings.window.0 as usize);
+    if history.len() < wanted {
         return Outcome::Refused(Refusal::Buffer);
     }
-    if sound(s, history) {
+    if sound(
+        settings,
+        used,
+        exists,
+        ready,
+        partitions,
+        priorities,
+        masks,
+        queue,
+        clock,
+        history,
+    ) {
         return Outcome::Accepted;
     }
     Outcome::Refused(Refusal::Unsound)

@@ -1,0 +1,5 @@
+// The accounts: what each partition was charged in the window, and who has budget left.
+pub mod charging;
+pub mod history;
+pub mod solvency;
+pub mod window;

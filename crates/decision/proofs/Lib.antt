@@ -1,0 +1,8 @@
+pub mod NarrowingLaws
+pub mod LeadsKept
+pub mod ListLeads
+pub mod LeadsLaws
+pub mod States
+pub mod DecisionLaws
+pub mod UpkeepLaws
+pub mod Events

@@ -1,0 +1,222 @@
+-- The lead of a list of threads: with one more at its end, with a rest that changes nothing, without a thread, with other priorities.
+use mathlib.Core.Logic.{_≢_}
+use mathlib.Core.Path.{_≡_, refl, sym, ap, ap₂, subst, _∙_}
+use Prim.Native.Nat.{ℕ, _+_, _≤_, _<_}
+use mathlib.Core.Bool.{Bool, true, false, not, cond, _&&_, or-true, and-true, and-false}
+use mathlib.Core.List.{List, [], _∷_, _++_, map, append-assoc, append-nil}
+use lib.Dec.{eqb, ltb}
+use native.Mathlib.Omega.{arith}
+use native.Mathlib.Decide.{ℕ-discrete, decLt}
+use borrow.Author.Tests.{eq-eqb, ne-eqb, lt-ltb, le-ltb, ltb-true}
+use Rattle.lists.specs.Lists.{any, keep, first, maximum, member, consIf}
+use Rattle.lists.proofs.Tests.{clash, both}
+use Rattle.lists.proofs.All.{any-member, member-keep, maximum-high, maximum-found, keep-both}
+use Rattle.model.specs.Step.{leaves}
+use Rattle.decision.specs.Leads.{topOf, leadOf, anyOf, levelOf, leadIn, raisedBy}
+use Rattle.decision.specs.declared.leads.Lead.{Lead}
+use Rattle.decision.proofs.LeadsKept.{lead-in, top-joined, lead-stays, lead-new, top-kept, lead-kept}
+
+abbrev lead : ℕ → ℕ → Lead
+lead t u = record { top = t; first = u }
+
+-- ---- one more
+
+any-joined : (l : List ℕ) (t : ℕ) → anyOf (l ++ (t ∷ [])) ≡ true
+unfolding any
+any-joined [] t = refl
+any-joined (x ∷ l) t = refl
+
+module _ (f : ℕ → ℕ) where
+  level-some : (l : List ℕ) → anyOf l ≡ true → levelOf f l ≡ topOf f l + 1
+  unfolding levelOf
+  level-some l e = ap (λ (z : Bool). cond z (topOf f l + 1) 0) e
+
+  -- it is higher
+  more-new : (l : List ℕ) (t : ℕ) → ((u : ℕ) → member u l ≡ true → f u < f t) → topOf f l ≤ f t → leadIn f (l ++ (t ∷ [])) ≡ lead (f t + 1) t
+  more-new l t high low =
+      let top : topOf f (l ++ (t ∷ [])) ≡ f t = top-joined f l t ∙ omega arith in
+      ap₂ lead (level-some (l ++ (t ∷ [])) (any-joined l t) ∙ ap (λ (n : ℕ). n + 1) top) (lead-new f l t high top)
+
+  pub lead-more : (l : List ℕ) (t : ℕ) → leadIn f (l ++ (t ∷ [])) ≡ raisedBy (leadIn f l) (f t) t
+  unfolding raisedBy levelOf any maximum
+  lead-more [] t = more-new [] t (λ u m. clash m refl) (omega arith) ∙ sym (ap (λ (z : Bool). cond z (lead (f t + 1) t) (leadIn f [])) (lt-ltb 0 (f t + 1) (omega arith)))
+  lead-more (x ∷ l) t = go (decLt (topOf f (x ∷ l)) (f t))
+    where
+      go : Dec (topOf f (x ∷ l) < f t) → leadIn f ((x ∷ l) ++ (t ∷ [])) ≡ cond (ltb (topOf f (x ∷ l) + 1) (f t + 1)) (lead (f t + 1) t) (leadIn f (x ∷ l))
+      go (yes h) =
+          more-new (x ∷ l) t (λ u m. let b = maximum-high f (x ∷ l) u m in omega arith) (omega arith)
+          ∙ sym (ap (λ (z : Bool). cond z (lead (f t + 1) t) (leadIn f (x ∷ l))) (lt-ltb (topOf f (x ∷ l) + 1) (f t + 1) (omega arith)))
+      go (no h) =
+          let top : topOf f ((x ∷ l) ++ (t ∷ [])) ≡ topOf f (x ∷ l) = top-joined f (x ∷ l) t ∙ omega arith in
+          ap₂ lead (ap (λ (n : ℕ). n + 1) top) (lead-stays f (x ∷ l) t refl (omega arith))
+          ∙ sym (ap (λ (z : Bool). cond z (lead (f t + 1) t) (leadIn f (x ∷ l))) (le-ltb (topOf f (x ∷ l) + 1) (f t + 1) (omega arith)))
+
+  -- ---- a rest that is not higher
+
+  level-more : (a : List ℕ) (x : ℕ) → levelOf f (a ++ (x ∷ [])) ≡ cond (ltb (levelOf f a) (f x + 1)) (f x + 1) (levelOf f a)
+  unfolding raisedBy
+  level-more a x = ap (λ (b : Lead). b .top) (lead-more a x) ∙ go (ltb (levelOf f a) (f x + 1))
+    where
+      go : (z : Bool) → cond z (lead (f x + 1) x) (leadIn f a) .top ≡ cond z (f x + 1) (levelOf f a)
+      go true = refl
+      go false = refl
+
+  level-one : (a : List ℕ) (x : ℕ) → levelOf f a ≤ levelOf f (a ++ (x ∷ []))
+  level-one a x = rw (level-more a x) (go (ltb (levelOf f a) (f x + 1)) refl)
+    where
+      go : (z : Bool) → ltb (levelOf f a) (f x + 1) ≡ z → levelOf f a ≤ cond z (f x + 1) (levelOf f a)
+      go true e = let h = ltb-true (levelOf f a) (f x + 1) e in omega arith
+      go false e = omega arith
+
+  level-front : (a b : List ℕ) → levelOf f a ≤ levelOf f (a ++ b)
+  level-front a [] = rw (append-nil a) (omega arith)
+  level-front a (x ∷ b) =
+      let h = level-one a x in
+      let k = level-front (a ++ (x ∷ [])) b in
+      let e : (a ++ (x ∷ [])) ++ b ≡ a ++ (x ∷ b) = append-assoc a (x ∷ []) b in
+      omega (arith, h, subst (λ (l : List ℕ). levelOf f (a ++ (x ∷ [])) ≤ levelOf f l) e k)
+
+  lead-same-level : (a : List ℕ) (x : ℕ) → levelOf f (a ++ (x ∷ [])) ≤ levelOf f a → leadIn f (a ++ (x ∷ [])) ≡ leadIn f a
+  unfolding raisedBy
+  lead-same-level a x low = go (ltb (levelOf f a) (f x + 1)) refl
+    where
+      go : (z : Bool) → ltb (levelOf f a) (f x + 1) ≡ z → leadIn f (a ++ (x ∷ [])) ≡ leadIn f a
+      go true q =
+          let l = ltb-true (levelOf f a) (f x + 1) q in
+          let n : levelOf f (a ++ (x ∷ [])) ≡ f x + 1 = level-more a x ∙ ap (λ (z : Bool). cond z (f x + 1) (levelOf f a)) q in
+          let w : ⊥ = omega (arith, low, l, n) in absurd w
+      go false q = lead-more a x ∙ ap (λ (z : Bool). cond z (lead (f x + 1) x) (leadIn f a)) q
+
+  pub lead-stop : (a b : List ℕ) → levelOf f (a ++ b) ≤ levelOf f a → leadIn f (a ++ b) ≡ leadIn f a
+  lead-stop a [] h = ap (leadIn f) (append-nil a)
+  lead-stop a (x ∷ b) h =
+      let e : (a ++ (x ∷ [])) ++ b ≡ a ++ (x ∷ b) = append-assoc a (x ∷ []) b in
+      let k : levelOf f ((a ++ (x ∷ [])) ++ b) ≤ levelOf f a = subst (λ (l : List ℕ). levelOf f l ≤ levelOf f a) (sym e) h in
+      let m = level-front (a ++ (x ∷ [])) b in
+      ap (leadIn f) (sym e) ∙ lead-stop (a ++ (x ∷ [])) b (omega (arith, k, level-one a x)) ∙ lead-same-level a x (omega (arith, k, m))
+
+-- ---- other priorities
+
+map-same : (f g : ℕ → ℕ) (l : List ℕ) → ((u : ℕ) → member u l ≡ true → f u ≡ g u) → map f l ≡ map g l
+unfolding any
+map-same f g [] h = refl
+map-same f g (x ∷ l) h = ap₂ (λ (n : ℕ) (k : List ℕ). n ∷ k) (h x (rw (eq-eqb x x refl))) (map-same f g l (λ u m. h u (rw m (or-true (eqb u x)))))
+
+pub keep-same : (f g : ℕ → Bool) (l : List ℕ) → ((u : ℕ) → member u l ≡ true → f u ≡ g u) → keep f l ≡ keep g l
+unfolding any keep
+keep-same f g [] h = refl
+keep-same f g (x ∷ l) h = ap₂ (λ (b : Bool) (k : List ℕ). consIf b x k) (h x (rw (eq-eqb x x refl))) (keep-same f g l (λ u m. h u (rw m (or-true (eqb u x)))))
+
+-- the lead depends only on the priorities of the threads themselves
+pub lead-same : (f g : ℕ → ℕ) (l : List ℕ) → ((u : ℕ) → member u l ≡ true → f u ≡ g u) → leadIn f l ≡ leadIn g l
+unfolding levelOf
+lead-same f g l h =
+    let top : topOf f l ≡ topOf g l = ap maximum (map-same f g l h) in
+    ap₂ lead (ap (λ (n : ℕ). cond (anyOf l) (n + 1) 0) top)
+    (ap (λ (k : List ℕ). first k 255) (keep-same (λ u. eqb (f u) (topOf f l)) (λ u. eqb (g u) (topOf g l)) l (λ u m. ap₂ eqb (h u m) top)))
+
+-- ---- a thread less
+
+any-left : (l : List ℕ) (t u : ℕ) → member u l ≡ true → u ≢ t → anyOf (leaves l t) ≡ true
+unfolding leaves
+any-left l t u m n = any-member (λ x. true) (keep (λ v. not (eqb v t)) l) u (member-keep (λ v. not (eqb v t)) l u ∙ rw (m, ne-eqb u t n)) refl
+
+-- nothing changes if it is not the first
+pub lead-left : (f : ℕ → ℕ) (l : List ℕ) (t : ℕ) → leadOf f l ≢ t → (leadIn f (leaves l t) ≡ leadIn f l) × (anyOf (leaves l t) ≡ anyOf l)
+unfolding levelOf leaves keep any
+lead-left f l t n = go (anyOf l) refl
+  where
+    go : (z : Bool) → anyOf l ≡ z → (leadIn f (leaves l t) ≡ leadIn f l) × (anyOf (leaves l t) ≡ anyOf l)
+    go true e =
+        let there = lead-in f l e .0 in
+        let some : anyOf (leaves l t) ≡ anyOf l = any-left l t (leadOf f l) there n ∙ sym e in
+        (ap₂ lead (ap₂ (λ (b : Bool) (k : ℕ). cond b (k + 1) 0) some (top-kept f l e t n)) (lead-kept f l e t n), some)
+    go false e =
+        let none : leaves l t ≡ l = empty-left l e in
+        (ap (leadIn f) none, ap anyOf none)
+      where
+        empty-left : (k : List ℕ) → anyOf k ≡ false → leaves k t ≡ k
+        empty-left [] q = refl
+        empty-left (x ∷ k) q = clash {b = true} refl q
+
+-- it never goes up
+pub level-left : (f : ℕ → ℕ) (l : List ℕ) (t : ℕ) → levelOf f (leaves l t) ≤ levelOf f l
+unfolding levelOf leaves
+level-left f l t = go (anyOf (leaves l t)) refl
+  where
+    go : (z : Bool) → anyOf (leaves l t) ≡ z → cond z (topOf f (leaves l t) + 1) 0 ≤ levelOf f l
+    go true e =
+        let v = maximum-found f (leaves l t) e in
+        let (mine, other) = both (member (v .0) l) (not (eqb (v .0) t)) (sym (member-keep (λ u. not (eqb u t)) l (v .0)) ∙ v .1) in
+        let some : anyOf l ≡ true = any-member (λ x. true) l (v .0) mine refl in
+        let high = maximum-high f l (v .0) mine in
+        rw some (omega (arith, high, v .2))
+    go false e = omega arith
+
+-- ---- one priority changed
+
+first-other : (k : List ℕ) (t : ℕ) → first k 255 ≢ t → first (keep (λ u. not (eqb u t)) k) 255 ≡ first k 255
+unfolding keep first
+first-other [] t n = refl
+first-other (x ∷ k) t n = rw (ne-eqb x t n)
+
+module _ (f g : ℕ → ℕ) (l : List ℕ) (t : ℕ) where
+  -- above all others it leads
+  pub lead-above : member t l ≡ true → ((u : ℕ) → member u l ≡ true → u ≢ t → f u < f t) → leadIn f l ≡ lead (f t + 1) t
+  lead-above m high =
+      let some : anyOf l ≡ true = any-member (λ x. true) l t m refl in
+      let (there, level) = lead-in f l some in
+      let most = maximum-high f l t m in
+      let one : leadOf f l ≡ t = alone (leadOf f l) there (omega (arith, most, level)) in
+      let top : topOf f l ≡ f t = sym level ∙ ap f one in
+      ap₂ lead (level-some f l some ∙ ap (λ (n : ℕ). n + 1) top) one
+    where
+      alone : (u : ℕ) → member u l ≡ true → f t ≤ f u → u ≡ t
+      alone u i h = go (ℕ-discrete u t)
+        where
+          go : Dec (u ≡ t) → u ≡ t
+          go (yes e) = e
+          go (no n) = let k = high u i n in let w : ⊥ = omega (arith, h, k) in absurd w
+
+  module _ (same : (u : ℕ) → u ≢ t → f u ≡ g u) where
+    -- below the top, and not the first before: nothing changes
+    pub lead-below : anyOf l ≡ true → leadOf g l ≢ t → f t < topOf g l → leadIn f l ≡ leadIn g l
+    lead-below some n low =
+        let (there, level) = lead-in g l some in
+        let v = maximum-found f l some in
+        let high : topOf f l ≤ topOf g l = rw (← v .2) (each (v .0) (v .1) (ℕ-discrete (v .0) t)) in
+        let back : topOf g l ≤ topOf f l = omega (arith, maximum-high f l (leadOf g l) there, same (leadOf g l) n, level) in
+        let top : topOf f l ≡ topOf g l = omega (arith, high, back) in
+        let kept : keep (λ u. eqb (f u) (topOf g l)) l ≡ keep (λ u. not (eqb u t)) (keep (λ u. eqb (g u) (topOf g l)) l) =
+        sym (keep-both (λ u. eqb (g u) (topOf g l)) (λ u. not (eqb u t)) (λ u. eqb (f u) (topOf g l)) (λ u. at u (ℕ-discrete u t)) l) in
+        ap₂ lead (level-some f l some ∙ ap (λ (k : ℕ). k + 1) top ∙ sym (level-some g l some))
+        (ap (λ (k : ℕ). first (keep (λ u. eqb (f u) k) l) 255) top ∙ ap (λ (k : List ℕ). first k 255) kept
+        ∙ first-other (keep (λ u. eqb (g u) (topOf g l)) l) t n)
+      where
+        each : (u : ℕ) → member u l ≡ true → Dec (u ≡ t) → f u ≤ topOf g l
+        each u m (yes e) = rw e (omega (arith, low))
+        each u m (no k) = omega (arith, maximum-high g l u m, same u k)
+
+        at : (u : ℕ) → Dec (u ≡ t) → eqb (f u) (topOf g l) ≡ (eqb (g u) (topOf g l) && not (eqb u t))
+        at u (yes e) =
+            rw e (ne-eqb (f t) (topOf g l) (λ q. let w : ⊥ = omega (arith, low, q) in absurd w)
+            ∙ sym (ap (λ (z : Bool). eqb (g t) (topOf g l) && not z) (eq-eqb t t refl) ∙ and-false (eqb (g t) (topOf g l))))
+        at u (no k) =
+            ap (λ (j : ℕ). eqb j (topOf g l)) (same u k)
+            ∙ sym (ap (λ (z : Bool). eqb (g u) (topOf g l) && not z) (ne-eqb u t k) ∙ and-true (eqb (g u) (topOf g l)))
+
+    -- it is bounded by what it was and by the new priority
+    pub level-changed : (c : ℕ) → levelOf g l ≤ c → f t + 1 ≤ c → levelOf f l ≤ c
+    unfolding levelOf
+    level-changed c low new = go (anyOf l) refl
+      where
+        each : anyOf l ≡ true → topOf g l + 1 ≤ c → (u : ℕ) → member u l ≡ true → Dec (u ≡ t) → f u + 1 ≤ c
+        each some h u m (yes e) = rw e new
+        each some h u m (no k) = omega (arith, h, maximum-high g l u m, same u k)
+
+        go : (z : Bool) → anyOf l ≡ z → cond z (topOf f l + 1) 0 ≤ c
+        go true e =
+            let v = maximum-found f l e in
+            let h : topOf g l + 1 ≤ c = rw (← level-some g l e) low in
+            rw (← v .2) (each e h (v .0) (v .1) (ℕ-discrete (v .0) t))
+        go false e = omega arith

@@ -1,0 +1,58 @@
+-- The leads after an accepted event's own action.
+use mathlib.Core.Logic.{_≢_}
+use mathlib.Core.Path.{_≡_}
+use Prim.Native.Nat.{ℕ, _≤_, _<_}
+use mathlib.Core.List.{List}
+use lib.ListN.{length, getD, take}
+use Rattle.sheet.specs.declared.Settings.{Settings}
+use Rattle.model.specs.State.{queueOf, State}
+use Rattle.model.specs.Event.{kindOf, threadOf}
+use Rattle.model.specs.Step.{act}
+use Rattle.model.specs.Facts.{Settled, Named}
+use Rattle.model.specs.Arrays.{Regular, threadsIn, stateOf}
+use Rattle.model.specs.declared.Clock.{Clock}
+use Rattle.event.specs.Kinds.{kindNumber}
+use Rattle.event.specs.declared.kinds.Action.{Action}
+use Rattle.decision.specs.Keeping.{KeptIn, Lined, Changed}
+
+-- a state as it stands in the arrays
+pub record Before : Type 0 where
+  pub settings : Settings
+  pub totals : List ℕ
+  pub clock : Clock
+  pub exists : List ℕ
+  pub ready : List ℕ
+  pub partitions : List ℕ
+  pub priorities : List ℕ
+  pub masks : List ℕ
+  pub queue : List ℕ
+
+abbrev pub stateIn : Before → State
+stateIn b = stateOf (b .settings) (b .totals) (b .clock) (b .exists) (b .ready) (b .partitions) (b .priorities) (b .masks) (b .queue)
+
+-- the arrays hold the threads and the queue that the model's action gives from a settled state before, of whose threads the event names one that it
+-- may name, and of which the leads are kept; t is that thread, and p was its partition
+pub record Followed (core : ℕ) (ready partitions priorities masks queue : List ℕ) (queued : ℕ) (tops firsts : List ℕ) (set : ℕ) (action : Action) (t p : ℕ) : Type 0 where
+  pub before : Before
+  pub history : List ℕ
+  pub bytes : List ℕ
+  pub exists : List ℕ
+  pub settled : Settled (stateIn before) history
+  pub names : Named (stateIn before) bytes
+  pub sizes : Regular (before .exists) (before .ready) (before .partitions) (before .priorities) (before .masks)
+  pub still : Regular exists ready partitions priorities masks
+  pub full : length queue ≡ 64
+  pub few : queued ≤ 64
+  pub kind : kindOf bytes ≡ kindNumber action
+  pub named : t ≡ threadOf bytes
+  pub home : p ≡ getD (before .partitions) t 0
+  pub on : core ≡ before .settings .core
+  pub threads : threadsIn exists ready partitions priorities masks ≡ act (stateIn before) bytes .threads
+  pub line : take queued queue ≡ queueOf (act (stateIn before) bytes)
+  pub kept : KeptIn core (before .partitions) (before .priorities) (before .masks) (queueOf (stateIn before)) tops firsts set
+
+-- what is left of it where the event set a priority: by the thread's flag, the leads are right, or they were with its old priority
+pub record FollowedPriority (core : ℕ) (ready partitions priorities masks queue : List ℕ) (queued : ℕ) (tops firsts : List ℕ) (set t : ℕ) : Type 0 where
+  pub outside : getD ready t 0 ≢ 1 → KeptIn core partitions priorities masks (take queued queue) tops firsts set
+  pub inside : getD ready t 0 ≡ 1
+      → (t < 64) × Lined partitions queue queued core × Changed core partitions priorities masks (take queued queue) tops firsts set t

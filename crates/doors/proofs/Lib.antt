@@ -1,0 +1,4 @@
+pub mod Entering
+pub mod Lending
+pub mod Starting
+pub mod Looking

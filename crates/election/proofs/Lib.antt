@@ -1,5 +1,0 @@
-pub mod Passes
-pub mod Tallies
-pub mod Leads
-pub mod Decisions
-pub mod Bounds

@@ -1,0 +1,89 @@
+-- The threads that five arrays stand for: what stands at a place, and what a store to the arrays does.
+use mathlib.Core.Logic.{_≢_}
+use mathlib.Core.Path.{_≡_, refl, sym, ap, _∙_}
+use mathlib.Core.Bool.{Bool, true, false}
+use Prim.Native.Nat.{ℕ, _≤_, _<_}
+use mathlib.Core.List.{List, map}
+use native.Mathlib.Decide.{ℕ-discrete}
+use lib.Dec.{eqb, leb}
+use borrow.Author.Tests.{le-leb}
+use lib.ListN.{length, getD, set, length-set}
+use lib.Seq.{ext-getD, getD-set-same, getD-set-other}
+use Rattle.lists.specs.Lists.{below}
+use Rattle.lists.proofs.Tables.{table-length, table-at}
+use Rattle.lists.proofs.All.{all-below, below-all}
+use Rattle.model.specs.State.{absent, Thread}
+use Rattle.model.specs.Step.{withReady, withPriority}
+use Rattle.model.specs.Arrays.{flag, threadIn, threadsIn, plain, Regular}
+
+-- a table with another value at one place
+table-set : (f g : ℕ → Thread) (t : ℕ) (x : Thread) → t < 64 → g t ≡ x → ((u : ℕ) → u ≢ t → g u ≡ f u) → map g (below 64) ≡ set (map f (below 64)) t x
+table-set f g t x h here other =
+    let long : length (map g (below 64)) ≡ length (set (map f (below 64)) t x) = table-length g 64 ∙ sym (length-set (map f (below 64)) t x ∙ table-length f 64) in
+    ext-getD absent (map g (below 64)) (set (map f (below 64)) t x) long (λ u b. at u (rw (table-length g 64) at b) (ℕ-discrete u t))
+  where
+    at : (u : ℕ) → u < 64 → Dec (u ≡ t) → getD (map g (below 64)) u absent ≡ getD (set (map f (below 64)) t x) u absent
+    at u b (yes e) =
+        table-at g 64 u absent b ∙ ap g e ∙ here
+        ∙ sym (ap (λ (k : ℕ). getD (set (map f (below 64)) t x) k absent) e ∙ getD-set-same (map f (below 64)) t x absent (rw (table-length f 64) h))
+    at u b (no n) = table-at g 64 u absent b ∙ other u n ∙ sym (getD-set-other (map f (below 64)) t u x absent n ∙ table-at f 64 u absent b)
+
+pub flag-on : (b : Bool) → eqb (flag b) 1 ≡ b
+flag-on true = refl
+flag-on false = refl
+
+thread-eq : {e r : Bool} {p n m : ℕ} {e′ r′ : Bool} {p′ n′ m′ : ℕ} → e ≡ e′ → r ≡ r′ → p ≡ p′ → n ≡ n′ → m ≡ m′
+    → _≡_ {A = Thread} (record { exists = e; ready = r; partition = p; priority = n; mask = m }) (record { exists = e′; ready = r′; partition = p′; priority = n′; mask = m′ })
+thread-eq a b c d e = λ i. record { exists = a i; ready = b i; partition = c i; priority = d i; mask = e i }
+
+module _ (e r p n m : List ℕ) where
+  pub threads-length : length (threadsIn e r p n m) ≡ 64
+  unfolding threadsIn
+  threads-length = table-length (threadIn e r p n m) 64
+
+  pub thread-at : (t : ℕ) → t < 64 → getD (threadsIn e r p n m) t absent ≡ threadIn e r p n m t
+  unfolding threadsIn
+  thread-at t h = table-at (threadIn e r p n m) 64 t absent h
+
+-- a flag stored among flags of 0 and 1
+pub plain-put : (l : List ℕ) (t v : ℕ) → length l ≡ 64 → t < 64 → v ≤ 1 → plain l ≡ true → plain (set l t v) ≡ true
+unfolding plain
+plain-put l t v k h low e = below-all (λ i. leb (getD (set l t v) i 0) 1) 64 (λ i b. at i b (ℕ-discrete i t))
+  where
+    at : (i : ℕ) → i < 64 → Dec (i ≡ t) → leb (getD (set l t v) i 0) 1 ≡ true
+    at i b (yes z) = rw (z, getD-set-same l t v 0 (rw k h)) (le-leb v 1 low)
+    at i b (no z) = rw (getD-set-other l t i v 0 z) (all-below (λ j. leb (getD l j 0) 1) 64 e i b)
+
+module _ (e r p n m : List ℕ) (s : Regular e r p n m) (t : ℕ) (h : t < 64) where
+  here : (l : List ℕ) (v : ℕ) → length l ≡ 64 → getD (set l t v) t 0 ≡ v
+  here l v k = getD-set-same l t v 0 (rw k h)
+
+  -- a whole record
+  pub thread-put : (x : Thread)
+      → threadsIn (set e t (flag (x .exists))) (set r t (flag (x .ready))) (set p t (x .partition)) (set n t (x .priority)) (set m t (x .mask))
+      ≡ set (threadsIn e r p n m) t x
+  unfolding threadsIn
+  thread-put x =
+      table-set (threadIn e r p n m) _ t x h
+      (thread-eq (ap (λ (v : ℕ). eqb v 1) (here e (flag (x .exists)) (s .exists)) ∙ flag-on (x .exists))
+      (ap (λ (v : ℕ). eqb v 1) (here r (flag (x .ready)) (s .ready)) ∙ flag-on (x .ready))
+      (here p (x .partition) (s .partitions)) (here n (x .priority) (s .priorities)) (here m (x .mask) (s .masks)))
+      (λ u k. thread-eq (ap (λ (v : ℕ). eqb v 1) (getD-set-other e t u (flag (x .exists)) 0 k)) (ap (λ (v : ℕ). eqb v 1) (getD-set-other r t u (flag (x .ready)) 0 k))
+      (getD-set-other p t u (x .partition) 0 k) (getD-set-other n t u (x .priority) 0 k) (getD-set-other m t u (x .mask) 0 k))
+
+  -- one number of it
+  pub ready-put : (b : Bool) → threadsIn e (set r t (flag b)) p n m ≡ set (threadsIn e r p n m) t (withReady (getD (threadsIn e r p n m) t absent) b)
+  unfolding threadsIn
+  ready-put b =
+      rw (table-at (threadIn e r p n m) 64 t absent h) (
+      table-set (threadIn e r p n m) _ t _ h
+      (thread-eq refl (ap (λ (v : ℕ). eqb v 1) (here r (flag b) (s .ready)) ∙ flag-on b) refl refl refl)
+      (λ u k. thread-eq refl (ap (λ (v : ℕ). eqb v 1) (getD-set-other r t u (flag b) 0 k)) refl refl refl))
+
+  pub priority-put : (v : ℕ) → threadsIn e r p (set n t v) m ≡ set (threadsIn e r p n m) t (withPriority (getD (threadsIn e r p n m) t absent) v)
+  unfolding threadsIn
+  priority-put v =
+      rw (table-at (threadIn e r p n m) 64 t absent h) (
+      table-set (threadIn e r p n m) _ t _ h
+      (thread-eq refl refl refl (here n v (s .priorities)) refl)
+      (λ u k. thread-eq refl refl refl (getD-set-other n t u v 0 k) refl))

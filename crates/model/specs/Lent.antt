@@ -1,0 +1,100 @@
+-- All that a caller lends the doors for a state and its history: arrays of numbers. Which state they stand for, and when it is refused.
+use Prim.Native.Nat.{ℕ, _*_}
+use mathlib.Core.Bool.{not, cond, _&&_}
+use mathlib.Core.List.{List, map}
+use lib.Dec.{ltb}
+use lib.ListN.{length, getD}
+use Rattle.lists.specs.Lists.{below}
+use Rattle.units.specs.declared.Percent.{Percent}
+use Rattle.sheet.specs.Settings.{W, withinLimits}
+use Rattle.sheet.specs.declared.Settings.{Settings}
+use Rattle.model.specs.State.{State}
+use Rattle.model.specs.Arrays.{stateOf, plain}
+use Rattle.model.specs.Sound.{sound}
+use Rattle.model.specs.Step.{Saved, saved}
+use Rattle.model.specs.declared.Clock.{Clock}
+
+pub record Lent : Type 0 where
+  -- W, C, P, M and the count; the shares
+  pub settings : List ℕ
+  pub shares : List ℕ
+  pub used : List ℕ
+  -- the stamp, the slot, the time since tick, how many threads are queued, the running one
+  pub clock : List ℕ
+  pub exists : List ℕ
+  pub ready : List ℕ
+  pub partitions : List ℕ
+  pub priorities : List ℕ
+  pub masks : List ℕ
+  pub queue : List ℕ
+  pub history : List ℕ
+
+abbrev pub lent : List ℕ → List ℕ → List ℕ → List ℕ → List ℕ → List ℕ → List ℕ → List ℕ → List ℕ → List ℕ → List ℕ → Lent
+lent a b u k e r p n m q h =
+    record {
+      settings = a;
+      shares = b;
+      used = u;
+      clock = k;
+      exists = e;
+      ready = r;
+      partitions = p;
+      priorities = n;
+      masks = m;
+      queue = q;
+      history = h;
+    }
+
+-- ---- the state that they stand for
+
+abbrev pub sharesIn : List ℕ → List Percent
+sharesIn l = map (λ p. record { 0 = getD l p 0 }) (below 16)
+
+abbrev pub settingsIn : List ℕ → List ℕ → Settings
+settingsIn a b =
+    record {
+      window = record { 0 = getD a 0 0 };
+      tick = record { 0 = getD a 1 0 };
+      policy = getD a 2 0;
+      core = getD a 3 0;
+      count = getD a 4 0;
+      shares = sharesIn b;
+    }
+
+abbrev pub clockIn : List ℕ → Clock
+clockIn k =
+    record {
+      stamp = getD k 0 0;
+      slot = record { 0 = getD k 1 0 };
+      since = record { 0 = getD k 2 0 };
+      queued = getD k 3 0;
+      running = getD k 4 0;
+    }
+
+abbrev pub settingsOf : Lent → Settings
+settingsOf x = settingsIn (x .settings) (x .shares)
+
+abbrev pub clockOf : Lent → Clock
+clockOf x = clockIn (x .clock)
+
+abbrev pub stateIn : Lent → State
+stateIn x =
+    stateOf (settingsOf x) (x .used) (clockOf x) (x .exists) (x .ready) (x .partitions) (x .priorities) (x .masks) (x .queue)
+
+abbrev pub savedIn : Lent → Saved
+savedIn x = saved (stateIn x) (x .history)
+
+-- ---- when they are refused
+
+-- the number by which settings, totals u, a clock k, five arrays of threads, the queue q and the history h are refused, or 0: 8 for settings
+-- outside their limits, "because the buffer length wanted is worked out from them"; 7 for a history too short; 8 for a flag above 1, and where
+-- the state that all this stands for is not sound
+unfoldable pub refusedArrays : Settings → List ℕ → Clock → List ℕ → List ℕ → List ℕ → List ℕ → List ℕ → List ℕ → List ℕ → ℕ
+refusedArrays c u k e r p n m q h =
+    cond (not (withinLimits c)) 8
+    (cond (ltb (length h) (c .count * W c)) 7
+    (cond (not (plain e && plain r && sound (stateOf c u k e r p n m q) h)) 8 0))
+
+abbrev pub refusedIn : Lent → ℕ
+refusedIn x =
+    refusedArrays (settingsOf x) (x .used) (clockOf x) (x .exists) (x .ready) (x .partitions) (x .priorities) (x .masks) (x .queue) (x .history)

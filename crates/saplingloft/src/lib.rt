@@ -1,0 +1,121 @@
+// The C interface, declared in include/saplingloft.h: the doors but `run`, lent the caller's struct where it lies. Every parameter is a pointer
+// to an array of numbers, a pointer and a length, or a number of 32 bits; the answer is a number of 32 bits: so C passes them alike on every
+// processor. Each contract is that of the door behind it.
+// `run` has a crate of its own (saplingloft_run), so that the step is compiled into its loop; one archive holds both.
+ghost use mathlib.Core.Path.{_≡_};
+ghost use Rattle.model.specs.Doors as Doors;
+ghost use Rattle.model.specs.Lent.{lent};
+ghost use Rattle.doors.specs.Doors.{Begun, Answered};
+ghost use Rattle.lines.specs.Numbers.{unpacked};
+use lines::numbers;
+
+// A fresh start from a sheet's bytes. The answer is the refusal, or 0.
+#[no_mangle]
+pub extern "C" fn saplingloft_lent_start(
+    sheet: &[u8],
+    settings: &mut [u32; 5],
+    shares: &mut [u32; 16],
+    used: &mut [u32; 16],
+    clock: &mut [u32; 5],
+    exists: &mut [u8; 64],
+    ready: &mut [u8; 64],
+    partitions: &mut [u8; 64],
+    priorities: &mut [u8; 64],
+    masks: &mut [u8; 64],
+    queue: &mut [u8; 64],
+    history: &mut [u32],
+) -> u32
+    ensures { λ r. ⌜
+        Begun (lent (now (settings .entry)) (now (shares .entry)) (now (used .entry)) (now (clock .entry)) (now (exists .entry)) (now (ready .entry)) (now (partitions .entry)) (now (priorities .entry)) (now (masks .entry)) (now (queue .entry)) (now (history .entry)))
+        (now (sheet .entry)) r
+        (lent (now (settings .exit)) (now (shares .exit)) (now (used .exit)) (now (clock .exit)) (now (exists .exit)) (now (ready .exit)) (now (partitions .exit)) (now (priorities .exit)) (now (masks .exit)) (now (queue .exit)) (now (history .exit)))
+        ⌝ }
+{
+    let outcome = doors::start::start(
+        sheet,
+        settings,
+        shares,
+        used,
+        clock,
+        exists,
+        ready,
+        partitions,
+        priorities,
+        masks,
+        queue,
+        history,
+    );
+    numbers::outcome_number(outcome) as u32
+}
+
+// An event of any bytes. The answer holds refusal, mode, partition and thread, a byte each, the refusal lowest.
+#[no_mangle]
+pub extern "C" fn saplingloft_lent_event(
+    settings: &[u32; 5],
+    shares: &[u32; 16],
+    used: &mut [u32; 16],
+    clock: &mut [u32; 5],
+    exists: &mut [u8; 64],
+    ready: &mut [u8; 64],
+    partitions: &mut [u8; 64],
+    priorities: &mut [u8; 64],
+    masks: &mut [u8; 64],
+    queue: &mut [u8; 64],
+    history: &mut [u32],
+    event: &[u8],
+) -> u32
+    ensures { λ r. ⌜
+        Answered (lent (now (settings .entry)) (now (shares .entry)) (now (used .entry)) (now (clock .entry)) (now (exists .entry)) (now (ready .entry)) (now (partitions .entry)) (now (priorities .entry)) (now (masks .entry)) (now (queue .entry)) (now (history .entry)))
+        (now (event .entry)) (unpacked r)
+        (lent (now (settings .entry)) (now (shares .entry)) (now (used .exit)) (now (clock .exit)) (now (exists .exit)) (now (ready .exit)) (now (partitions .exit)) (now (priorities .exit)) (now (masks .exit)) (now (queue .exit)) (now (history .exit)))
+        ⌝ }
+{
+    let verdict = doors::single::event(
+        settings,
+        shares,
+        used,
+        clock,
+        exists,
+        ready,
+        partitions,
+        priorities,
+        masks,
+        queue,
+        history,
+        event,
+    );
+    numbers::packed(verdict)
+}
+
+// The decision for a state. The answer is as an event's.
+#[no_mangle]
+pub extern "C" fn saplingloft_lent_decision(
+    settings: &[u32; 5],
+    shares: &[u32; 16],
+    used: &[u32; 16],
+    clock: &[u32; 5],
+    exists: &[u8; 64],
+    ready: &[u8; 64],
+    partitions: &[u8; 64],
+    priorities: &[u8; 64],
+    masks: &[u8; 64],
+    queue: &[u8; 64],
+    history: &[u32],
+) -> u32
+    ensures { λ r. ⌜ unpacked r ≡ Doors.decision (lent (now (settings .entry)) (now (shares .entry)) (now (used .entry)) (now (clock .entry)) (now (exists .entry)) (now (ready .entry)) (now (partitions .entry)) (now (priorities .entry)) (now (masks .entry)) (now (queue .entry)) (now (history .entry))) ⌝ }
+{
+    let verdict = doors::queries::decision(
+        settings,
+        shares,
+        used,
+        clock,
+        exists,
+        ready,
+        partitions,
+        priorities,
+        masks,
+        queue,
+        history,
+    );
+    numbers::packed(verdict)
+}

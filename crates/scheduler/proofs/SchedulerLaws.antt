@@ -1,0 +1,147 @@
+-- The answers of a step as the model's, and the invariant after it.
+use mathlib.Core.Logic.{_≢_}
+use mathlib.Core.Path.{_≡_, refl, sym, ap, subst, _∙_}
+use Prim.Native.Nat.{ℕ}
+use mathlib.Core.List.{List}
+use lib.ListN.{length, take}
+use Rattle.refusals.specs.Refusals.{numberOf, outcomeOf}
+use Rattle.refusals.specs.declared.Refusal.{Refusal}
+use Rattle.refusals.specs.declared.Outcome.{Outcome}
+use Rattle.refusals.specs.declared.Outcome.the-variants.{Accepted, Refused}
+use Rattle.refusals.proofs.Laws.{never-zero}
+use Rattle.sheet.specs.declared.Settings.{Settings}
+use Rattle.model.specs.Answers.{decidedOf, lineOf, answerLine}
+use Rattle.model.specs.Event.{refusedState, refusedEvent, refused, stampOf}
+use Rattle.model.specs.Facts.{Settled}
+use Rattle.model.specs.Arrays.{Regular, stateOf}
+use Rattle.model.specs.Lent.{refusedArrays}
+use Rattle.model.specs.Policy.{decide}
+use Rattle.model.specs.Step.{Saved, saved, withRunning, settle, apply, answer}
+use Rattle.model.specs.State.{State}
+use Rattle.model.specs.declared.Clock.{Clock}
+use Rattle.model.specs.declared.Decision.{Decision}
+use Rattle.model.specs.declared.Verdict.the-variants as verdict
+use Rattle.model.proofs.Accepted.{fit-of, of-fit, accepted-of}
+use Rattle.model.proofs.Flags.{as-state}
+use Rattle.model.proofs.Table.{threads-length}
+use Rattle.invariants.proofs.Answered.{Good, good-answer}
+use Rattle.accounts.proofs.ChargingLaws.{map-length}
+use Rattle.event.specs.Bytes.{bytesOf}
+use Rattle.event.specs.declared.Event.{Event}
+use Rattle.decision.specs.Upkeep.{Held, Chooses}
+use Rattle.decision.specs.declared.kept.Sets.{Sets}
+use Rattle.scheduler.specs.Effects.{Ready, Applied}
+use Rattle.scheduler.proofs.EffectsLaws.{left}
+use Rattle.scheduler.specs.Stepping.{Whole, Answered, Same}
+
+-- ---- the answers
+
+module _ (s : State) (h b : List ℕ) where
+  refused-by-event : refusedState s h ≡ 0 → refused s h b ≡ refusedEvent s b
+  unfolding refused
+  refused-by-event e = rw e
+
+  line-no : (r : Refusal) → refused s h b ≡ numberOf r → lineOf (verdict.Refused r) ≡ answerLine (answer (saved s h) b)
+  unfolding answer
+  line-no r e = rw (e, never-zero r)
+
+  after-no : (r : Refusal) → refused s h b ≡ numberOf r → saved s h ≡ answer (saved s h) b .after
+  unfolding answer
+  after-no r e = rw (e, never-zero r)
+
+  line-yes : refused s h b ≡ 0 → (y : Saved) (d : Decision) → y ≡ apply (saved s h) b → decidedOf d ≡ decide (y .state) → lineOf (verdict.Decided d) ≡ answerLine (answer (saved s h) b)
+  unfolding answer settle
+  line-yes e y d f g = rw (e, ← f, ← g)
+
+  after-yes : refused s h b ≡ 0 → (y : Saved) (d : Decision) → y ≡ apply (saved s h) b → decidedOf d ≡ decide (y .state)
+      → saved (withRunning (y .state) (d .thread)) (y .history) ≡ answer (saved s h) b .after
+  unfolding answer settle
+  after-yes e y d f g = rw (e, ← f, ← g)
+
+  answer-zero : refused s h b ≡ 0 → answer (saved s h) b .refusal ≡ 0
+  unfolding answer
+  answer-zero e = rw e
+
+module _ (c : Settings) (u : List ℕ) (k : Clock) (e r p n m q h budgets tops firsts : List ℕ) (sets : Sets)
+    (g : Whole c u k e r p n m q h budgets tops firsts sets) where
+  abbrev s : State
+  s = stateOf c u k e r p n m q
+
+  abbrev v : Saved
+  v = saved s h
+
+  -- what the next door finds
+  pub taken-arrays : refusedArrays c u k e r p n m q h ≡ 0
+  taken-arrays = as-state c u k e r p n m q h (g .sizes .exists-plain) (g .sizes .ready-plain) ∙ g .taken
+
+  good : Good c v
+  good = record {
+    fit = fit-of s h (g .taken);
+    lengths = record { shares = g .shares; used = map-length u ∙ g .sixteen; threads = threads-length e r p n m; queue = g .full };
+    settings = refl;
+  }
+
+  -- the invariant after an event
+  whole-after : (b u′ : List ℕ) (k′ : Clock) (e′ r′ p′ n′ m′ q′ h′ tops′ firsts′ : List ℕ) (sets′ : Sets)
+      → saved (stateOf c u′ k′ e′ r′ p′ n′ m′ q′) h′ ≡ answer v b .after → Regular e′ r′ p′ n′ m′
+      → Held c u′ p′ n′ m′ (take (k′ .queued) q′) budgets tops′ firsts′ sets′ → Whole c u′ k′ e′ r′ p′ n′ m′ q′ h′ budgets tops′ firsts′ sets′
+  whole-after b u′ k′ e′ r′ p′ n′ m′ q′ h′ tops′ firsts′ sets′ same sized held =
+      let a : Good c (answer v b .after) = good-answer c v b good in
+      record {
+        sixteen = sym (map-length u′) ∙ ap (λ (z : Saved). length (z .state .used)) same ∙ a .lengths .used;
+        shares = g .shares;
+        sizes = sized;
+        full = ap (λ (z : Saved). length (z .state .queue)) same ∙ a .lengths .queue;
+        taken = subst (λ (z : Saved). refusedState (z .state) (z .history) ≡ 0) (sym same) (of-fit _ _ (a .fit));
+        held = held;
+      }
+
+  -- ---- a refusal
+
+  no : (b : List ℕ) (x : Refusal) → refusedEvent s b ≡ numberOf x → Answered c v b (verdict.Refused x) u k e r p n m q h budgets tops firsts sets
+  no b x f =
+      let z = refused-by-event s h b (g .taken) ∙ f in
+      record { line = line-no s h b x z; after = after-no s h b x z; whole = g }
+
+  pub no-event : (b : List ℕ) (o : Outcome) (x : Refusal) → o ≡ Refused x → outcomeOf o ≡ refusedEvent s b → Answered c v b (verdict.Refused x) u k e r p n m q h budgets tops firsts sets
+  no-event b o x f i = no b x (sym i ∙ ap outcomeOf f)
+
+  pub same : (k′ : Clock) → k′ ≡ k → Same u k e r p n m q h u k′ e r p n m q h
+  same k′ i = record { totals = refl; clock = i; exists = refl; ready = refl; partitions = refl; priorities = refl; masks = refl; queue = refl; history = refl }
+
+  -- ---- an accepted event
+
+  pub taken-still : (b b′ : List ℕ) → b ≡ b′ → refused s h b′ ≡ 0 → answer v b .refusal ≢ 0 → ⊥
+  taken-still b b′ i f no = no (ap (λ (l : List ℕ). answer v l .refusal) i ∙ answer-zero s h b′ f)
+
+  pub taken-event : (b : List ℕ) (o : Outcome) → o ≡ Accepted → outcomeOf o ≡ refusedEvent s b → refused s h b ≡ 0
+  taken-event b o f i = refused-by-event s h b (g .taken) ∙ sym i ∙ ap outcomeOf f
+
+  module _ (x : Event) (yes : refused s h (bytesOf x) ≡ 0) (stamped : x .stamp ≡ stampOf (bytesOf x)) where
+    pub ready : Ready c u k e r p n m q h budgets tops firsts sets x
+    ready = record {
+      sixteen = g .sixteen;
+      shares = g .shares;
+      sizes = g .sizes;
+      full = g .full;
+      accepted = accepted-of s h (bytesOf x) yes;
+      stamped = stamped;
+      held = g .held;
+    }
+
+    pub decided : (u′ : List ℕ) (k′ : Clock) (e′ r′ p′ n′ m′ q′ h′ tops′ firsts′ : List ℕ) (sets′ : Sets) (d : Decision)
+        → Applied c v u′ k′ e′ r′ p′ n′ m′ q′ h′ budgets tops′ firsts′ sets′ (bytesOf x) → Chooses c u′ budgets tops′ firsts′ sets′ d
+        → Answered c v (bytesOf x) (verdict.Decided d) u′ (record { stamp = k′ .stamp; slot = k′ .slot; since = k′ .since; queued = k′ .queued; running = d .thread })
+        e′ r′ p′ n′ m′ q′ h′ budgets tops′ firsts′ sets′
+    decided u′ k′ e′ r′ p′ n′ m′ q′ h′ tops′ firsts′ sets′ d a w =
+        let b = bytesOf x in
+        let y : Saved = saved (stateOf c u′ k′ e′ r′ p′ n′ m′ q′) h′ in
+        let fine : Settled (y .state) (y .history) =
+        subst (λ (z : Saved). Settled (z .state) (z .history)) (sym (a .state)) (left c u k e r p n m q h budgets tops firsts sets x ready .settled) in
+        let same : decidedOf d ≡ decide (y .state) = w k′ e′ r′ p′ n′ m′ q′ h′ (a .sizes) fine (a .held) in
+        let then = after-yes s h b yes y d (a .state) same in
+        record {
+          line = line-yes s h b yes y d (a .state) same;
+          after = then;
+          whole = whole-after b u′ (record { stamp = k′ .stamp; slot = k′ .slot; since = k′ .since; queued = k′ .queued; running = d .thread }) e′ r′ p′ n′ m′ q′ h′ tops′ firsts′ sets′ then (a .sizes) (a .held);
+        }

@@ -1,0 +1,222 @@
+// What an accepted event does before anything is decided: the time used is charged, the event's own action is done, and what is kept follows.
+use accounts::window;
+use accounts::window::Account;
+use decision::kept;
+use decision::kept::Sets;
+use event::Event;
+use event::kinds::Action;
+use model::Clock;
+use sheet::Settings;
+use threads::actions;
+ghost use mathlib.Core.Path.{_≡_};
+ghost use mathlib.Core.Logic.{_≢_};
+ghost use Rattle.model.specs.Arrays.{stateOf};
+ghost use Rattle.model.specs.Step.{saved};
+ghost use Rattle.model.specs.Event.{kindOf};
+ghost use Rattle.sheet.specs.Settings.{C};
+ghost use Rattle.event.specs.Bytes.{bytesOf};
+ghost use Rattle.accounts.specs.Solvency.{Reweighed};
+ghost use Rattle.scheduler.specs.Effects.{Ready, Applied, Ticking, Ticked};
+
+// The clock and the sets after it.
+pub struct Done {
+    pub clock: Clock,
+    pub sets: Sets,
+}
+
+// A tick: the charge, and the move to the next slot.
+fn tick(
+    settings: Settings,
+    used: &mut [u32; 16],
+    budgets: &[u32; 16],
+    partitions: &[u8; 64],
+    history: &mut [u32],
+    c: Clock,
+    solvent: u16,
+    stamp: u32,
+) -> Account
+    requires { ⌜ Ticking settings (now used) c (now partitions) (now history) stamp ⌝ }
+    ensures { λ r. ⌜
+        Ticked settings (now (used .entry)) c (now (partitions .entry)) (now (history .entry)) (now (used .exit)) (r .clock) (now (history .exit)) stamp
+        × Reweighed (now (used .entry)) (now (used .exit)) (now (budgets .entry)) (C settings) solvent (r .solvent)
+        ⌝ }
+{
+    let paid = window::pay(
+        settings,
+        used,
+        budgets,
+        partitions,
+        history,
+        c,
+        solvent,
+        stamp,
+    );
+    let clock = paid.clock;
+    window::move_slot(settings, used, budgets, history, clock, paid.solvent)
+}
+
+// The other kinds but a resume: the charge, the action, and the leads after it.
+fn work(
+    settings: Settings,
+    used: &mut [u32; 16],
+    exists: &mut [u8; 64],
+    ready: &mut [u8; 64],
+    partitions: &mut [u8; 64],
+    priorities: &mut [u8; 64],
+    masks: &mut [u8; 64],
+    queue: &mut [u8; 64],
+    budgets: &[u32; 16],
+    tops: &mut [u16; 16],
+    firsts: &mut [u8; 16],
+    history: &mut [u32],
+    c: Clock,
+    sets: Sets,
+    event: Event,
+) -> Done
+    requires { ⌜ Ready settings (now used) c (now exists) (now ready) (now partitions) (now priorities) (now masks) (now queue) (now history) (now budgets) (now tops) (now firsts) sets event × (kindOf (bytesOf event) ≢ 1) × (kindOf (bytesOf event) ≢ 7) ⌝ }
+    ensures { λ r. ⌜
+        Applied settings
+        (saved (stateOf settings (now (used .entry)) c (now (exists .entry)) (now (ready .entry)) (now (partitions .entry)) (now (priorities .entry)) (now (masks .entry)) (now (queue .entry))) (now (history .entry)))
+        (now (used .exit)) (r .clock) (now (exists .exit)) (now (ready .exit)) (now (partitions .exit)) (now (priorities .exit)) (now (masks .exit)) (now (queue .exit)) (now (history .exit)) (now (budgets .entry)) (now (tops .exit)) (now (firsts .exit)) (r .sets)
+        (bytesOf event)
+        ⌝ }
+{
+    let t = event.thread;
+    let home = partitions[t as usize];
+    let paid = window::pay(
+        settings,
+        used,
+        budgets,
+        partitions,
+        history,
+        c,
+        sets.solvent,
+        event.stamp,
+    );
+    let n = actions::act(
+        exists,
+        ready,
+        partitions,
+        priorities,
+        masks,
+        queue,
+        c.queued,
+        event,
+    );
+    let action = event.action;
+    let competing = kept::follow(
+        tops,
+        firsts,
+        ready,
+        partitions,
+        priorities,
+        masks,
+        queue,
+        n,
+        settings.core,
+        sets.competing,
+        action,
+        t,
+        home,
+    );
+    let d = paid.clock;
+    let slot = d.slot;
+    let since = d.since;
+    let clock = Clock {
+        stamp: d.stamp,
+        slot: slot,
+        since: since,
+        queued: n,
+        running: d.running,
+    };
+    let after = Sets {
+        paying: sets.paying,
+        competing: competing,
+        solvent: paid.solvent,
+    };
+    Done {
+        clock: clock,
+        sets: after,
+    }
+}
+
+// Nothing that is kept changes but who has budget.
+fn finish(account: Account, sets: Sets) -> Done
+    ensures { λ r. ⌜ r ≡ record { clock = account .clock; sets = record { paying = sets .paying; competing = sets .competing; solvent = account .solvent } } ⌝ }
+{
+    let clock = account.clock;
+    let after = Sets {
+        paying: sets.paying,
+        competing: sets.competing,
+        solvent: account.solvent,
+    };
+    Done {
+        clock: clock,
+        sets: after,
+    }
+}
+
+// Steps 1 and 2 of an accepted event: the charge and the action of its kind; or a resume.
+pub fn apply(
+    settings: Settings,
+    used: &mut [u32; 16],
+    exists: &mut [u8; 64],
+    ready: &mut [u8; 64],
+    partitions: &mut [u8; 64],
+    priorities: &mut [u8; 64],
+    masks: &mut [u8; 64],
+    queue: &mut [u8; 64],
+    budgets: &[u32; 16],
+    tops: &mut [u16; 16],
+    firsts: &mut [u8; 16],
+    history: &mut [u32],
+    c: Clock,
+    sets: Sets,
+    event: Event,
+) -> Done
+    requires { ⌜ Ready settings (now used) c (now exists) (now ready) (now partitions) (now priorities) (now masks) (now queue) (now history) (now budgets) (now tops) (now firsts) sets event ⌝ }
+    ensures { λ r. ⌜
+        Applied settings
+        (saved (stateOf settings (now (used .entry)) c (now (exists .entry)) (now (ready .entry)) (now (partitions .entry)) (now (priorities .entry)) (now (masks .entry)) (now (queue .entry))) (now (history .entry)))
+        (now (used .exit)) (r .clock) (now (exists .exit)) (now (ready .exit)) (now (partitions .exit)) (now (priorities .exit)) (now (masks .exit)) (now (queue .exit)) (now (history .exit)) (now (budgets .entry)) (now (tops .exit)) (now (firsts .exit)) (r .sets)
+        (bytesOf event)
+        ⌝ }
+{
+    let action = event.action;
+    match action {
+        Action::Tick => {
+            let a = tick(
+                settings,
+                used,
+                budgets,
+                partitions,
+                history,
+                c,
+                sets.solvent,
+                event.stamp,
+            );
+            finish(a, sets)
+        }
+        Action::Resume => {
+            let a = window::restart(settings, used, budgets, history, c, event.stamp);
+            finish(a, sets)
+        }
+        _ => work(
+            settings,
+            used,
+            exists,
+            ready,
+            partitions,
+            priorities,
+            masks,
+            queue,
+            budgets,
+            tops,
+            firsts,
+            history,
+            c,
+            sets,
+            event,
+        ),
+    }
+}

@@ -1,4 +1,0 @@
-pub mod Needs
-pub mod Claims
-pub mod Standings
-pub mod Search

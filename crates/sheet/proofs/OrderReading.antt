@@ -1,0 +1,69 @@
+-- Laws of the records of a sheet, read.
+use mathlib.Core.Path.{_≡_}
+use Prim.Native.Nat.{ℕ, _+_, _-_, _*_, _%_, _≤_, _<_}
+use mathlib.Core.Bool.{true, false, _&&_}
+use mathlib.Core.List.{List, [], _++_, map}
+use lib.ListN.{length, take, drop, replicate, drop-of-length-le}
+use lib.Dec.{eqb, leb}
+use borrow.Author.Tests.{eqb-true, leb-true}
+use native.Mathlib.Omega.{arith}
+use Rattle.lists.specs.Lists.{below}
+use Rattle.lists.proofs.Tests.{both}
+use Rattle.lists.proofs.All.{all-fails, all-below}
+use Rattle.lists.proofs.Tables.{table-filled}
+use Rattle.sheet.specs.Records.{fieldOf, isValue}
+use Rattle.sheet.specs.declared.records.Field.{Field}
+use Rattle.sheet.specs.declared.records.Field.the-variants.{Value, Refused}
+use Rattle.sheet.proofs.RecordsLaws.{is-value, no-record}
+use Rattle.sheet.specs.Order.{letterAt, numberAt, recordCount, wholeRecords, fieldAt, valueAt, valuesOf, recordsFormed}
+
+-- ---- how many
+
+pub record Whole (bs : List ℕ) : Type 0 where
+  pub exact : length bs ≡ 12 * recordCount bs
+  pub low : 5 ≤ recordCount bs
+  pub high : recordCount bs ≤ 20
+
+pub whole-of : (bs : List ℕ) → wholeRecords bs ≡ true → Whole bs
+unfolding wholeRecords
+whole-of bs e =
+    let (e₁, c) = both (eqb (length bs % 12) 0 && leb 5 (recordCount bs)) (leb (recordCount bs) 20) e in
+    let (a, b) = both (eqb (length bs % 12) 0) (leb 5 (recordCount bs)) e₁ in
+    let even : length bs % 12 ≡ 0 = eqb-true _ _ a in
+    record { exact = omega arith; low = leb-true _ _ b; high = leb-true _ _ c }
+
+-- ---- one record
+
+-- what was read as record i is what it says
+pub field-is : (bs : List ℕ) (i : ℕ) {letter number : ℕ} {r : Field} → letter ≡ letterAt i → number ≡ numberAt i
+    → r ≡ fieldOf (take (12 * i + 12 - 12 * i) (drop (12 * i) bs)) letter number → fieldAt bs i ≡ r
+unfolding fieldAt
+field-is bs i a b e = let twelve : 12 * i + 12 - 12 * i ≡ 12 = omega arith in rw (e, a, b, twelve)
+
+pub value-is : (bs : List ℕ) (i v : ℕ) → fieldAt bs i ≡ Value v → (valueAt bs i ≡ v) × (isValue (fieldAt bs i) ≡ true)
+unfolding valueAt
+value-is bs i v e = (rw e, rw e)
+
+-- past the last record nothing is said
+pub value-past : (bs : List ℕ) → Whole bs → (i : ℕ) → recordCount bs ≤ i → valueAt bs i ≡ 0
+unfolding valueAt fieldAt
+value-past bs w i h =
+    let out : drop (12 * i) bs ≡ [] = drop-of-length-le bs {i = 12 * i} (omega (arith, w .exact)) in
+    rw (out, no-record (letterAt i) (numberAt i))
+
+-- ---- all records
+
+-- one that is refused refuses the sheet
+pub formed-not : (bs : List ℕ) (i : ℕ) → i < recordCount bs → fieldAt bs i ≡ Refused → recordsFormed bs ≡ false
+unfolding recordsFormed
+formed-not bs i h e = all-fails (λ i. isValue (fieldAt bs i)) (recordCount bs) i h (rw e)
+
+-- where none is, each says its value
+pub formed-of : (bs : List ℕ) → recordsFormed bs ≡ true → (i : ℕ) → i < recordCount bs → fieldAt bs i ≡ Value (valueAt bs i)
+unfolding recordsFormed valueAt
+formed-of bs e i h = is-value (fieldAt bs i) (all-below (λ j. isValue (fieldAt bs j)) (recordCount bs) e i h)
+
+-- past the last record there are zeros
+pub values-are : (bs : List ℕ) → Whole bs → map (valueAt bs) (below (recordCount bs)) ++ replicate (20 - recordCount bs) 0 ≡ valuesOf bs
+unfolding valuesOf
+values-are bs w = table-filled (valueAt bs) 0 20 (recordCount bs) (w .high) (value-past bs w)

@@ -1,0 +1,29 @@
+-- How the answers of the passes make up the test of the ready queue.
+use mathlib.Core.Path.{_≡_, refl, sym, ap, _∙_}
+use Prim.Native.Nat.{ℕ}
+use mathlib.Core.Bool.{Bool, true, false, _&&_}
+use mathlib.Core.List.{List}
+use lib.Dec.{eqb, leb}
+use lib.ListN.{getD, take, drop}
+use Rattle.lists.specs.Lists.{below, all, member}
+use Rattle.lists.proofs.Every.{all-same}
+use Rattle.model.specs.Arrays.{flag}
+use Rattle.soundness.specs.Queue.{holdsReady, Marked}
+
+pub queue-long : (r q : List ℕ) (n : ℕ) → leb n 64 ≡ false → false ≡ holdsReady r q n
+unfolding holdsReady
+queue-long r q n e = rw e
+
+pub queue-parts : (r q : List ℕ) (n : ℕ) (seen : List ℕ) (a b z : Bool) → leb n 64 ≡ true
+    → Marked (take n q) a seen
+    → b ≡ all (λ t. eqb (getD r t 0) (getD seen t 0)) (below 64)
+    → z ≡ all (eqb 0) (drop n q)
+    → (a && b && z) ≡ holdsReady r q n
+unfolding holdsReady
+queue-parts r q n seen a b z few m e f = go a refl
+  where
+    go : (w : Bool) → a ≡ w → (w && b && z) ≡ holdsReady r q n
+    go true p =
+        let ready = all-same (λ t. eqb (getD r t 0) (getD seen t 0)) (λ t. eqb (getD r t 0) (flag (member t (take n q)))) 64 (λ t h. ap (eqb (getD r t 0)) (m .marks p t h)) in
+        rw (few, sym (m .once) ∙ p, e ∙ ready, f)
+    go false p = rw (few, sym (m .once) ∙ p)

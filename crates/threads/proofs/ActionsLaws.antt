@@ -1,0 +1,130 @@
+-- What the model's action is for each kind.
+use mathlib.Core.Path.{_≡_, refl, sym, ap, _∙_}
+use Prim.Native.Nat.{ℕ, _-_, _≤_, _<_}
+use mathlib.Core.Bool.{true, false, not, cond}
+use mathlib.Core.List.{List, [], _∷_, _++_}
+use lib.ListN.{length, getD, set, take, replicate, length-set}
+use lib.Dec.{T, eqb}
+use denote.Enum.Declared.{tagOf}
+use mir.Val.{hasKey}
+use types.Run.{OneOf}
+use Rattle.model.specs.State.{absent, thread, State, Thread}
+use Rattle.model.specs.Event.{kindOf, threadOf, partitionOf, priorityOf, maskOf, known}
+use Rattle.model.specs.Step.{withThread, withReady, withPriority, created, joins, goes, leaves, act}
+use Rattle.model.specs.Arrays.{Regular, Tables, withTables}
+use Rattle.model.proofs.Table.{plain-put}
+use Rattle.threads.specs.Entries.{queueIn, queueFrom}
+use Rattle.threads.specs.Able.{Acted}
+use Rattle.event.proofs.kinds.Action
+use Rattle.event.proofs.Told.{told-not}
+use Rattle.event.specs.declared.kinds.Action.{Action}
+use Rattle.event.specs.declared.kinds.Action.the-variants.{Unknown, Tick, Create, Ready, Block, SetPriority, End, Resume}
+use Rattle.event.specs.Kinds.{kindNumber}
+
+module _ (s : State) (b : List ℕ) where
+  pub act-create : kindOf b ≡ 2 → act s b ≡ withThread s (threadOf b) (created (partitionOf b) (priorityOf b) (maskOf b))
+  unfolding act
+  act-create e = rw e
+
+  pub act-ready : kindOf b ≡ 3 → act s b ≡ joins s (threadOf b)
+  unfolding act
+  act-ready e = rw e
+
+  pub act-block : kindOf b ≡ 4 → act s b ≡ goes s (threadOf b) (withReady (thread s (threadOf b)) false)
+  unfolding act
+  act-block e = rw e
+
+  pub act-priority : kindOf b ≡ 5 → act s b ≡ withThread s (threadOf b) (withPriority (thread s (threadOf b)) (priorityOf b))
+  unfolding act
+  act-priority e = rw e
+
+  pub act-end : kindOf b ≡ 6 → act s b ≡ goes s (threadOf b) absent
+  unfolding act
+  act-end e = rw e
+
+  pub act-none : (r : Action) → kindNumber r ≡ cond (known (kindOf b)) (kindOf b) 0 → OneOf (0 ∷ 1 ∷ 7 ∷ []) (tagOf Action.the-type r) → act s b ≡ s
+  unfolding act known
+  act-none r e o =
+      let not : (m : ℕ) → known m ≡ true → T (not (hasKey (0 ∷ 1 ∷ 7 ∷ []) m)) → eqb (kindOf b) m ≡ false = λ m f h. told-not r (kindOf b) m (0 ∷ 1 ∷ 7 ∷ []) e f o h in
+      rw (not 2 refl tt, not 3 refl tt, not 4 refl tt, not 5 refl tt, not 6 refl tt)
+
+-- ---- the same of the threads and the queue alone
+
+-- a state with these threads and the queue of this list
+settled : (ts ts′ : List Thread) (q : List ℕ) (k : ℕ) (l : List ℕ) → ts ≡ ts′ → queueIn q k ≡ queueFrom l → (s : State)
+    → withTables s (record { threads = ts; queue = q; queued = k }) ≡ withTables s (record { threads = ts′; queue = l ++ replicate (64 - length l) 0; queued = length l })
+unfolding queueFrom
+settled ts ts′ q k l e f s = λ i. withTables s (record { threads = e i; queue = f i .entries; queued = f i .length })
+
+module _ (old : Tables) (b : List ℕ) (ts : List Thread) where
+  abbrev record-of : Thread
+  record-of = getD (old .threads) (threadOf b) absent
+
+  pub acted-create : kindOf b ≡ 2 → ts ≡ set (old .threads) (threadOf b) (created (partitionOf b) (priorityOf b) (maskOf b))
+      → Acted old (record { threads = ts; queue = old .queue; queued = old .queued }) b
+  acted-create k e s = (λ i. withTables s (record { threads = e i; queue = old .queue; queued = old .queued })) ∙ sym (act-create (withTables s old) b k)
+
+  pub acted-priority : kindOf b ≡ 5 → ts ≡ set (old .threads) (threadOf b) (withPriority record-of (priorityOf b))
+      → Acted old (record { threads = ts; queue = old .queue; queued = old .queued }) b
+  acted-priority k e s = (λ i. withTables s (record { threads = e i; queue = old .queue; queued = old .queued })) ∙ sym (act-priority (withTables s old) b k)
+
+  pub acted-ready : (q : List ℕ) (n : ℕ) → kindOf b ≡ 3 → ts ≡ set (old .threads) (threadOf b) (withReady record-of true)
+      → queueIn q n ≡ queueFrom (take (old .queued) (old .queue) ++ (threadOf b ∷ [])) → Acted old (record { threads = ts; queue = q; queued = n }) b
+  acted-ready q n k e f s = settled ts _ q n _ e f s ∙ sym (act-ready (withTables s old) b k)
+
+  pub acted-block : (q : List ℕ) (n : ℕ) → kindOf b ≡ 4 → ts ≡ set (old .threads) (threadOf b) (withReady record-of false)
+      → queueIn q n ≡ queueFrom (leaves (take (old .queued) (old .queue)) (threadOf b)) → Acted old (record { threads = ts; queue = q; queued = n }) b
+  acted-block q n k e f s = settled ts _ q n _ e f s ∙ sym (act-block (withTables s old) b k)
+
+  pub acted-end : (q : List ℕ) (n : ℕ) → kindOf b ≡ 6 → ts ≡ set (old .threads) (threadOf b) absent
+      → queueIn q n ≡ queueFrom (leaves (take (old .queued) (old .queue)) (threadOf b)) → Acted old (record { threads = ts; queue = q; queued = n }) b
+  acted-end q n k e f s = settled ts _ q n _ e f s ∙ sym (act-end (withTables s old) b k)
+
+-- ---- the arrays keep their lengths, and flags stay flags
+
+module _ (e r p n m : List ℕ) (s : Regular e r p n m) (t : ℕ) (h : t < 64) where
+  pub regular-all : (a b c d f : ℕ) → a ≤ 1 → b ≤ 1 → Regular (set e t a) (set r t b) (set p t c) (set n t d) (set m t f)
+  regular-all a b c d f x y = record {
+    exists = length-set e t a ∙ s .exists;
+    ready = length-set r t b ∙ s .ready;
+    partitions = length-set p t c ∙ s .partitions;
+    priorities = length-set n t d ∙ s .priorities;
+    masks = length-set m t f ∙ s .masks;
+    exists-plain = plain-put e t a (s .exists) h x (s .exists-plain);
+    ready-plain = plain-put r t b (s .ready) h y (s .ready-plain);
+  }
+
+  pub regular-ready : (r′ : List ℕ) (v : ℕ) → v ≤ 1 → r′ ≡ set r t v → Regular e r′ p n m
+  regular-ready r′ v x i = record {
+    exists = s .exists;
+    ready = ap length i ∙ length-set r t v ∙ s .ready;
+    partitions = s .partitions;
+    priorities = s .priorities;
+    masks = s .masks;
+    exists-plain = s .exists-plain;
+    ready-plain = rw i (plain-put r t v (s .ready) h x (s .ready-plain));
+  }
+
+  pub regular-priority : (n′ : List ℕ) (v : ℕ) → n′ ≡ set n t v → Regular e r p n′ m
+  regular-priority n′ v i = record {
+    exists = s .exists;
+    ready = s .ready;
+    partitions = s .partitions;
+    priorities = ap length i ∙ length-set n t v ∙ s .priorities;
+    masks = s .masks;
+    exists-plain = s .exists-plain;
+    ready-plain = s .ready-plain;
+  }
+
+-- ---- an action's own number
+
+pub own-kind : (a : Action) → kindNumber a ≡ cond (known (kindNumber a)) (kindNumber a) 0
+unfolding known
+own-kind Unknown = refl
+own-kind Tick = refl
+own-kind Create = refl
+own-kind Ready = refl
+own-kind Block = refl
+own-kind SetPriority = refl
+own-kind End = refl
+own-kind Resume = refl

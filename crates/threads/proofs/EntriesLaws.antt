@@ -1,0 +1,167 @@
+-- Laws of the ready queue by itself.
+use mathlib.Core.Path.{_≡_, sym, ap, _∙_}
+use mathlib.Core.Bool.{true, false, not}
+use mathlib.Core.List.{List, [], _∷_, _++_, append-assoc}
+use Prim.Native.Nat.{ℕ, zero, suc, _+_, _-_, _<_, _≤_}
+use native.Mathlib.Numerals.{add-one}
+use native.Mathlib.Omega.{arith}
+use native.Mathlib.Nat.{not-suc-le-zero}
+use lib.Dec.{eqb}
+use borrow.Author.Tests.{eq-eqb, ne-eqb, eqb-false, not-true}
+use lib.ListN.{length, getD, take, drop, set, replicate, length-append, length-take, length-drop, length-replicate, take-append-drop}
+use lib.Seq.{length-take-le, take-suc, take-all, drop-cons, append-snoc, set-at, take-at, drop-at, getD-append-add, getD-drop, take-append-le, drop-append-le, take-take, getD-take}
+use Rattle.lists.specs.Lists.{any, member, keep, distinct}
+use Rattle.lists.proofs.Tests.{both, neither}
+use Rattle.lists.proofs.All.{without-none}
+use Rattle.model.specs.Step.{leaves}
+use Rattle.threads.specs.Entries.{Queue, queueIn, queueFrom, Stored, FirstAt, without, removed}
+
+abbrev zeros : ℕ → List ℕ
+zeros n = replicate n 0
+
+pub queue-eq : {a b : List ℕ} {m n : ℕ} → a ≡ b → m ≡ n → queueIn a m ≡ queueIn b n
+queue-eq p q = λ i. queueIn (p i) (q i)
+
+zeros-open : (n : ℕ) → n < 64 → zeros (64 - n) ≡ 0 ∷ zeros (64 - (n + 1))
+zeros-open n h =
+    let e : 64 - n ≡ suc (64 - (n + 1)) = omega arith in
+    rw e
+
+module _ (es : List ℕ) (n : ℕ) (s : Stored es n) where
+  pub counted : length (take n es) ≡ n
+  unfolding queueFrom
+  counted = sym (ap (λ (k : Queue). k .length) s)
+
+  whole : es ≡ take n es ++ zeros (64 - n)
+  unfolding queueFrom
+  whole = ap (λ (k : Queue). k .entries) s ∙ rw counted
+
+  pub sixty-four : n ≤ 64 → length es ≡ 64
+  sixty-four h = ap length whole ∙ simp (length-append, length-replicate) (omega (arith, counted))
+
+  -- one more at the tail
+  pub appended : (t : ℕ) → n < 64 → queueIn (set es n t) (n + 1) ≡ queueFrom (take n es ++ (t ∷ []))
+  unfolding queueFrom
+  appended t h =
+      let ts = take n es in
+      let rest = zeros (64 - (n + 1)) in
+      let long : length (ts ++ (t ∷ [])) ≡ n + 1 = length-append ts (t ∷ []) ∙ omega (arith, counted) in
+      let open-es : es ≡ ts ++ 0 ∷ rest = whole ∙ ap (λ x. ts ++ x) (zeros-open n h) in
+      queue-eq (ap (λ x. set x n t) open-es ∙ set-at ts 0 rest t n counted ∙ sym (append-snoc ts t rest) ∙ rw long) (sym long)
+
+-- ---- entries that move up
+
+module _ (l : List ℕ) (at : ℕ) where
+  pub shifted : ℕ → List ℕ
+  shifted i = take i (without l at) ++ drop i l
+
+  long : at < length l → length (without l at) + 1 ≡ length l
+  long h = simp (length-append, length-take, length-drop) (omega arith)
+
+  pub shift-none : at < length l → l ≡ shifted at
+  unfolding shifted
+  shift-none h =
+      let p : length (take at l) ≡ at = length-take-le at l (omega arith) in
+      rw (take-at (take at l) (drop (at + 1) l) at p) (sym (take-append-drop at l))
+
+  next : (i : ℕ) → at ≤ i → i + 1 < length l → getD (without l at) i 0 ≡ getD l (i + 1) 0
+  next i h k =
+      let p : length (take at l) ≡ at = length-take-le at l (omega arith) in
+      let e : i ≡ length (take at l) + (i - at) = omega (arith, p) in
+      let f : at + 1 + (i - at) ≡ i + 1 = omega arith in
+      ap (λ x. getD (without l at) x 0) e ∙ getD-append-add (take at l) (drop (at + 1) l) (i - at) 0 ∙ getD-drop (at + 1) l (i - at) 0 ∙ ap (λ x. getD l x 0) f
+
+  front : (i : ℕ) → at < length l → i < length l → length (take i (without l at)) ≡ i
+  front i h k = length-take-le i (without l at) (omega (arith, long h))
+
+  back : (i : ℕ) → i < length l → drop i l ≡ getD l i 0 ∷ drop (i + 1) l
+  back i k = rw add-one (drop-cons l i 0 k)
+
+  pub shift-more : (i : ℕ) → at ≤ i → i + 1 < length l → set (shifted i) i (getD (shifted i) (i + 1) 0) ≡ shifted (i + 1)
+  unfolding shifted
+  shift-more i h k =
+      let w = without l at in
+      let a : length (take i w) ≡ i = front i (omega arith) (omega arith) in
+      let j : i < length w = omega (arith, long (omega arith)) in
+      let d : drop i l ≡ getD l i 0 ∷ drop (i + 1) l = back i (omega arith) in
+      let m : i + 1 ≡ length (take i w) + 1 = omega (arith, a) in
+      let v : getD (take i w ++ drop i l) (i + 1) 0 ≡ getD w i 0 =
+      ap (λ x. getD (take i w ++ drop i l) x 0) m ∙ getD-append-add (take i w) (drop i l) 1 0 ∙ getD-drop i l 1 0 ∙ sym (next i h k) in
+      let t : take (i + 1) w ≡ take i w ++ (getD w i 0 ∷ []) = rw add-one (take-suc w i 0 j) in
+      ap (λ x. set (take i w ++ drop i l) i x) v ∙ ap (λ x. set (take i w ++ x) i (getD w i 0)) d
+      ∙ set-at (take i w) (getD l i 0) (drop (i + 1) l) (getD w i 0) i a
+      ∙ sym (append-snoc (take i w) (getD w i 0) (drop (i + 1) l)) ∙ ap (λ x. x ++ drop (i + 1) l) (sym t)
+
+  pub shift-length : (i : ℕ) → at < length l → i < length l → length (shifted i) ≡ length l
+  unfolding shifted
+  shift-length i h k = simp (length-append, length-drop) (omega (arith, front i h k))
+
+  -- and a zero where the last one stood
+  pub shift-end : (n i : ℕ) → at < n → n ≤ length l → i ≡ n - 1 → set (shifted i) i 0 ≡ removed l n at
+  unfolding shifted removed
+  shift-end n i h k e =
+      let a : length (take i (without l at)) ≡ i = front i (omega arith) (omega arith) in
+      let d : drop i l ≡ getD l i 0 ∷ drop (i + 1) l = back i (omega arith) in
+      let m : i + 1 ≡ n = omega arith in
+      ap (λ x. set (take i (without l at) ++ x) i 0) d ∙ set-at (take i (without l at)) (getD l i 0) (drop (i + 1) l) 0 i a
+      ∙ ap (λ (x : ℕ). take i (without l at) ++ (0 ∷ drop x l)) m ∙ ap (λ (x : ℕ). take x (without l at) ++ (0 ∷ drop n l)) e
+
+-- ---- leaving
+
+-- a list without repeats, without what stands at a place
+leaves-at : (l : List ℕ) (t i : ℕ) → distinct l ≡ true → member t (take i l) ≡ false → i < length l → t ≡ getD l i 0 → leaves l t ≡ take i l ++ drop (suc i) l
+unfolding leaves keep distinct any
+leaves-at [] t i d m h e = absurd (not-suc-le-zero h)
+leaves-at (x ∷ l) t zero d m h e =
+    let out : member t l ≡ false = rw e (not-true (member x l) (both (not (member x l)) (distinct l) d .0)) in
+    rw (eq-eqb x t (sym e)) (without-none l t out)
+leaves-at (x ∷ l) t (suc i) d m h e =
+    let n : (eqb t x ≡ false) × (member t (take i l) ≡ false) = neither (eqb t x) (member t (take i l)) m in
+    let ih = leaves-at l t i (both (not (member x l)) (distinct l) d .1) (n .1) (omega arith) e in
+    rw (ne-eqb x t (λ q. eqb-false t x (n .0) (sym q))) (ap (λ (r : List ℕ). x ∷ r) ih)
+
+module _ (es : List ℕ) (n t i : ℕ) (s : Stored es n) (f : FirstAt (take n es) t i) where
+  pub stays : n ≤ i → queueIn es n ≡ queueFrom (leaves (take n es) t)
+  unfolding leaves
+  stays h =
+      let all : take i (take n es) ≡ take n es = take-all i (take n es) (omega (arith, counted es n s)) in
+      let out : member t (take n es) ≡ false = ap (member t) (sym all) ∙ f .none-before in
+      s ∙ ap queueFrom (sym (without-none (take n es) t out))
+
+  pub gone : i < n → n ≤ 64 → distinct (take n es) ≡ true → queueIn (removed es n i) (n - 1) ≡ queueFrom (leaves (take n es) t)
+  unfolding queueFrom removed
+  gone h few once =
+      let l = take n es in
+      let c = counted es n s in
+      let zs = zeros (64 - n) in
+      let inside : i < length l = omega (arith, c) in
+      let left : leaves l t ≡ without l i = leaves-at l t i once (f .none-before) inside (f .here inside) ∙ rw (← add-one i) in
+      let w : length (without l i) ≡ n - 1 = omega (arith, long l i inside, c) in
+      let whole-es = whole es n s in
+      let apart : without (l ++ zs) i ≡ without l i ++ zs =
+      rw (take-append-le i l zs (omega arith), drop-append-le (i + 1) l zs (omega arith)) (sym (append-assoc (take i l) (drop (i + 1) l) zs)) in
+      let head : take (n - 1) (without es i) ≡ without l i = ap (λ x. take (n - 1) (without x i)) whole-es ∙ ap (take (n - 1)) apart ∙ take-at (without l i) zs (n - 1) w in
+      let tail : drop n es ≡ zs = ap (drop n) whole-es ∙ drop-at l zs n c in
+      let e : n - 1 + 1 ≡ n = omega arith in
+      let more : 0 ∷ zs ≡ zeros (64 - (n - 1)) = sym (zeros-open (n - 1) (omega arith) ∙ rw e) in
+      rw left (queue-eq (ap (λ x. x ++ (0 ∷ drop n es)) head ∙ ap (λ x. without l i ++ (0 ∷ x)) tail ∙ ap (λ x. without l i ++ x) more ∙ rw w) (sym w))
+
+-- ---- finding
+
+pub found : (l : List ℕ) (n t i : ℕ) → n ≤ length l → i < n → member t (take i l) ≡ false → t ≡ getD l i 0 → FirstAt (take n l) t i
+found l n t i h k m e =
+    let c : length (take n l) ≡ n = length-take-le n l h in
+    record {
+      inside = omega (arith, c);
+      none-before = ap (member t) (take-take i n l (omega arith)) ∙ m;
+      here = λ _. e ∙ sym (getD-take n l i 0 k);
+    }
+
+pub found-none : (l : List ℕ) (n t : ℕ) → n ≤ length l → member t (take n l) ≡ false → FirstAt (take n l) t n
+found-none l n t h m =
+    let c : length (take n l) ≡ n = length-take-le n l h in
+    record {
+      inside = omega (arith, c);
+      none-before = ap (member t) (take-take n n l (omega arith)) ∙ m;
+      here = λ b. let z : ⊥ = omega (arith, c) in absurd z;
+    }

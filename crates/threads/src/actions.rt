@@ -1,0 +1,156 @@
+// What each kind of event does to the threads and the ready queue, in the arrays that the caller lends. Each function is lent the arrays that
+// it changes, and no other.
+use crate::queue;
+use event::Event;
+use event::kinds::Action;
+ghost use mathlib.Core.Path.{_≡_};
+ghost use mathlib.Core.Bool.{true};
+ghost use mathlib.Core.List.{_++_, _∷_, []};
+ghost use Prim.Native.Nat.{_<_, _≤_};
+ghost use lib.ListN.{take, set};
+ghost use Rattle.lists.specs.Lists.{distinct};
+ghost use Rattle.model.specs.State.{absent};
+ghost use Rattle.model.specs.Step.{created, leaves};
+ghost use Rattle.model.specs.Arrays.{threadsIn, tablesIn, Regular};
+ghost use Rattle.threads.specs.Entries.{Stored, queueIn, queueFrom};
+ghost use Rattle.event.specs.Bytes.{bytesOf};
+ghost use Rattle.threads.specs.Able.{Able, Acted};
+
+// A new thread, not ready.
+fn create(
+    exists: &mut [u8; 64],
+    ready: &mut [u8; 64],
+    partitions: &mut [u8; 64],
+    priorities: &mut [u8; 64],
+    masks: &mut [u8; 64],
+    t: u8,
+    partition: u8,
+    priority: u8,
+    mask: u8,
+)
+    requires { ⌜ (t < 64) × Regular (now exists) (now ready) (now partitions) (now priorities) (now masks) ⌝ }
+    ensures { λ _. ⌜
+        (threadsIn (now (exists .exit)) (now (ready .exit)) (now (partitions .exit)) (now (priorities .exit)) (now (masks .exit))
+        ≡ set (threadsIn (now (exists .entry)) (now (ready .entry)) (now (partitions .entry)) (now (priorities .entry)) (now (masks .entry))) t
+        (created partition priority mask))
+        × Regular (now (exists .exit)) (now (ready .exit)) (now (partitions .exit)) (now (priorities .exit)) (now (masks .exit))
+        ⌝ }
+{
+    let at = t as usize;
+    exists[at] = 1;
+    ready[at] = 0;
+    partitions[at] = partition;
+    priorities[at] = priority;
+    masks[at] = mask;
+}
+
+// The thread joins the queue at its tail, and is ready.
+fn join(ready: &mut [u8; 64], queue: &mut [u8; 64], queued: u32, t: u8) -> u32
+    requires { ⌜ (t < 64) × Stored (now queue) queued × (queued < 64) ⌝ }
+    ensures { λ r. ⌜
+        (now (ready .exit) ≡ set (now (ready .entry)) t 1)
+        × (queueIn (now (queue .exit)) r ≡ queueFrom (take queued (now (queue .entry)) ++ (t ∷ [])))
+        ⌝ }
+{
+    let at = t as usize;
+    ready[at] = 1;
+    queue::append(queue, queued, t)
+}
+
+// The thread leaves the queue, and is no longer ready.
+fn block(ready: &mut [u8; 64], queue: &mut [u8; 64], queued: u32, t: u8) -> u32
+    requires { ⌜ (t < 64) × Stored (now queue) queued × (queued ≤ 64) × (distinct (take queued (now queue)) ≡ true) ⌝ }
+    ensures { λ r. ⌜
+        (now (ready .exit) ≡ set (now (ready .entry)) t 0)
+        × (queueIn (now (queue .exit)) r ≡ queueFrom (leaves (take queued (now (queue .entry))) t))
+        ⌝ }
+{
+    let at = t as usize;
+    ready[at] = 0;
+    queue::leave(queue, queued, t)
+}
+
+// Its place in the queue is kept.
+fn set_priority(priorities: &mut [u8; 64], t: u8, priority: u8)
+    requires { ⌜ t < 64 ⌝ }
+    ensures { λ _. ⌜ now (priorities .exit) ≡ set (now (priorities .entry)) t priority ⌝ }
+{
+    let at = t as usize;
+    priorities[at] = priority;
+}
+
+// The thread's number is free again.
+fn forget(
+    exists: &mut [u8; 64],
+    ready: &mut [u8; 64],
+    partitions: &mut [u8; 64],
+    priorities: &mut [u8; 64],
+    masks: &mut [u8; 64],
+    t: u8,
+)
+    requires { ⌜ (t < 64) × Regular (now exists) (now ready) (now partitions) (now priorities) (now masks) ⌝ }
+    ensures { λ _. ⌜
+        (threadsIn (now (exists .exit)) (now (ready .exit)) (now (partitions .exit)) (now (priorities .exit)) (now (masks .exit))
+        ≡ set (threadsIn (now (exists .entry)) (now (ready .entry)) (now (partitions .entry)) (now (priorities .entry)) (now (masks .entry))) t
+        absent)
+        × Regular (now (exists .exit)) (now (ready .exit)) (now (partitions .exit)) (now (priorities .exit)) (now (masks .exit))
+        ⌝ }
+{
+    let at = t as usize;
+    exists[at] = 0;
+    ready[at] = 0;
+    partitions[at] = 0;
+    priorities[at] = 0;
+    masks[at] = 0;
+}
+
+// What the event's kind does; a tick and a resume do nothing here. The answer is how many threads are queued.
+pub fn act(
+    exists: &mut [u8; 64],
+    ready: &mut [u8; 64],
+    partitions: &mut [u8; 64],
+    priorities: &mut [u8; 64],
+    masks: &mut [u8; 64],
+    queue: &mut [u8; 64],
+    queued: u32,
+    event: Event,
+) -> u32
+    requires { ⌜ Able (now exists) (now ready) (now partitions) (now priorities) (now masks) (now queue) queued (bytesOf event) ⌝ }
+    ensures { λ r. ⌜
+        Acted
+        (tablesIn (now (exists .entry)) (now (ready .entry)) (now (partitions .entry)) (now (priorities .entry)) (now (masks .entry)) (now (queue .entry)) queued)
+        (tablesIn (now (exists .exit)) (now (ready .exit)) (now (partitions .exit)) (now (priorities .exit)) (now (masks .exit)) (now (queue .exit)) r)
+        (bytesOf event)
+        × Regular (now (exists .exit)) (now (ready .exit)) (now (partitions .exit)) (now (priorities .exit)) (now (masks .exit))
+        ⌝ }
+{
+    let t = event.thread;
+    let action = event.action;
+    match action {
+        Action::Create => {
+            create(
+                exists,
+                ready,
+                partitions,
+                priorities,
+                masks,
+                t,
+                event.partition,
+                event.priority,
+                event.mask,
+            );
+            queued
+        }
+        Action::Ready => join(ready, queue, queued, t),
+        Action::Block => block(ready, queue, queued, t),
+        Action::SetPriority => {
+            set_priority(priorities, t, event.priority);
+            queued
+        }
+        Action::End => {
+            forget(exists, ready, partitions, priorities, masks, t);
+            queue::leave(queue, queued, t)
+        }
+        Action::Unknown | Action::Tick | Action::Resume => queued,
+    }
+}

@@ -1,0 +1,64 @@
+// The ready queue by itself, the paper's line, in a lent array: an entry is added at the tail and taken out from any place. The places after
+// the last stay zero.
+ghost use mathlib.Core.Path.{_≡_};
+ghost use mathlib.Core.Bool.{true};
+ghost use mathlib.Core.List.{_++_, _∷_, []};
+ghost use Prim.Native.Nat.{_<_, _≤_};
+ghost use lib.ListN.{length, take};
+ghost use Rattle.lists.specs.Lists.{distinct};
+ghost use Rattle.model.specs.Step.{leaves};
+ghost use Rattle.threads.specs.Entries.{Stored, queueIn, queueFrom, FirstAt, removed};
+
+// One thread more at the tail.
+pub fn append(entries: &mut [u8; 64], queued: u32, t: u8) -> u32
+    requires { ⌜ Stored (now entries) queued × (queued < 64) ⌝ }
+    ensures { λ r. ⌜ queueIn (now (entries .exit)) r ≡ queueFrom (take queued (now (entries .entry)) ++ (t ∷ [])) ⌝ }
+{
+    let n = queued as usize;
+    entries[n] = t;
+    queued + 1
+}
+
+// The first place of thread t among the first n entries, or n where it is none of them.
+fn find(entries: &[u8; 64], n: usize, t: u8) -> usize
+    requires { ⌜ (n ≤ 64) × (length (now entries) ≡ 64) ⌝ }
+    ensures { λ r. ⌜ FirstAt (take n (now (entries .entry))) t r ⌝ }
+{
+    let mut i: usize = 0;
+    while i < n {
+        if t == entries[i] {
+            return i;
+        }
+        i += 1;
+    }
+    n
+}
+
+// Of the first n entries the one at a place is taken out: those behind it move up.
+fn remove(entries: &mut [u8; 64], n: usize, at: usize)
+    requires { ⌜ (at < n) × (n ≤ 64) × (length (now entries) ≡ 64) ⌝ }
+    ensures { λ _. ⌜ now (entries .exit) ≡ removed (now (entries .entry)) n at ⌝ }
+{
+    let last = n - 1;
+    let mut i = at;
+    while i < last {
+        let next = entries[i + 1];
+        entries[i] = next;
+        i += 1;
+    }
+    entries[last] = 0;
+}
+
+// Thread t leaves, if it is one of the entries.
+pub fn leave(entries: &mut [u8; 64], queued: u32, t: u8) -> u32
+    requires { ⌜ Stored (now entries) queued × (queued ≤ 64) × (distinct (take queued (now entries)) ≡ true) ⌝ }
+    ensures { λ r. ⌜ queueIn (now (entries .exit)) r ≡ queueFrom (leaves (take queued (now (entries .entry))) t) ⌝ }
+{
+    let n = queued as usize;
+    let at = find(entries, n, t);
+    if n <= at {
+        return queued;
+    }
+    remove(entries, n, at);
+    queued - 1
+}
