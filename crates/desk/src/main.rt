@@ -5,6 +5,7 @@ use libc::STDIN_FILENO;
 use libc::STDOUT_FILENO;
 use model::Verdict;
 use refusals::Outcome;
+use scheduler::batch;
 ghost use Prim.Native.Nat.{_+_, _≤_, _<_};
 ghost use lib.ListN.{length};
 ghost use Rattle.io.specs.Counts.{Counts};
@@ -59,24 +60,13 @@ fn answer(
     events: &[u8],
     out: &mut [u8],
 ) -> bool {
-    let outcome = doors::batch::run(
-        settings,
-        shares,
-        used,
-        clock,
-        exists,
-        ready,
-        partitions,
-        priorities,
-        masks,
-        queue,
-        history,
-        events,
-        out,
-    );
     let records = (events.len() + 11) / 12;
     let lines = batch::least(records, out.len() / 12);
-    io::write_all(STDOUT_FILENO, &out[..12 * lines])
+    let written = 12 * lines;
+    doors::batch::run(
+        settings, shares, used, clock, exists, ready, partitions, priorities, masks, queue, history, events, out,
+    );
+    io::write_all(STDOUT_FILENO, &out[..written])
 }
 
 // What a turn of the reading loop leaves: whether there may be more to read, and how many bytes of a cut record are kept.
