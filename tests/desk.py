@@ -5,6 +5,7 @@
 """
 import random
 import resource
+import select
 import subprocess
 import sys
 import tempfile
@@ -35,6 +36,26 @@ def run(program, sheet, events, piece=0, memory=None):
             time.sleep(0.002)
         process.stdin.close()
         return process.stdout.read(), process.stderr.read()
+
+
+def told(program, sheet, events, waits):
+    """What the program prints before each next piece is sent: the pieces' lines, each awaited for so long; no line is awaited after a cut piece."""
+    with tempfile.TemporaryDirectory() as folder:
+        (Path(folder) / "shares.txt").write_bytes(sheet)
+        with subprocess.Popen([program], cwd=folder, stdin=subprocess.PIPE, stdout=subprocess.PIPE, bufsize=0) as process:
+            lines, held = [], 0
+            for piece in events:
+                process.stdin.write(piece)
+                held += len(piece)
+                line = b""
+                while len(line) < held // 12 * 12 and select.select([process.stdout], [], [], waits)[0]:
+                    line += process.stdout.read(held // 12 * 12 - len(line))
+                held %= 12
+                early = select.select([process.stdout], [], [], 0.02)[0] if held else []
+                lines.append(line + (b"a line before its event was whole" if early else b""))
+            process.stdin.close()
+            lines.append(process.stdout.read())
+            return lines
 
 
 def busy(count):
@@ -86,6 +107,16 @@ def main():
         for cut in (0, 7):
             stream = busy(count) + bytes(cut)
             check(f"{count} events and {cut} bytes", run(desk, SHEET, stream), run(reference, SHEET, stream)[0])
+
+    # each event is answered before the next one is sent, also where a piece cuts it; only the end of the input makes a cut one 14
+    pieces = [record(2, 0, 0, 0, 10, 1), record(3, 0, 0), record(1, 1000)[:5], record(1, 1000)[5:] + record(1, 2000)[:1], record(1, 2000)[1:], b"\x01\x02"]
+    runs_0 = b"00 1 00 000\n"
+    expected = [b"00 0 00 255\n", runs_0, b"", runs_0, runs_0, b"", b"14 0 00 000\n"]
+    tried += 1
+    answers = told(desk, SHEET, pieces, 10)
+    if answers != expected:
+        wrong.append("a live stream")
+        print(f"desk: a live stream: expected {expected}, got {answers}")
 
     # a million events, 12 MB of them, in 8 MB: what the program holds does not grow with the stream
     stream = busy(5000) * 200

@@ -19,13 +19,13 @@ VECTORS = ROOT / "tests/vectors"
 
 # what the computation has to look through: every definition of these files that is not an abbreviation
 OPENED = [
-    ("lists", "Lists"), ("units", "Units"), ("limits", "Limits"), ("records", "Records"), ("order", "Order"), ("sheet", "Settings"),
+    ("lists", "Lists"), ("units", "Units"), ("sheet", "Limits"), ("sheet", "Records"), ("sheet", "Order"), ("sheet", "Settings"),
     ("sheet", "Sheet"), ("model", "State"), ("model", "Policy"), ("model", "Event"), ("model", "Step"), ("model", "Answers"),
     ("invariants", "Once"),
 ]
 
 # the crates that they stand on
-BELOW = ["lists", "refusals", "units", "limits", "records", "order", "sheet", "model", "invariants"]
+BELOW = ["lists", "refusals", "units", "sheet", "model", "invariants"]
 
 HEAD = """-- Written by tests/vectors.py.
 use Prim.Native.Nat.{ℕ}
