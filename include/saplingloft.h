@@ -1,6 +1,6 @@
 /* Saplingloft: the scheduler for one core, for programs in C11 and C++17.
  *
- * Compile and link, with the library installed by `make install PREFIX=...`, or from the repository after `rt staticlib saplingloft`:
+ * Compile and link, with the library installed by `make install PREFIX=...`, or from the repository after `tools/archive`:
  *
  *     cc -std=c11 -O2 kernel.c $(pkg-config --cflags --libs saplingloft)
  *     cc -std=c11 -O2 -Iinclude kernel.c target/staticlib/libsaplingloft.a

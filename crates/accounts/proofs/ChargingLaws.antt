@@ -9,9 +9,9 @@ use Rattle.units.specs.Units.{elapsedOf}
 use Rattle.units.specs.declared.Cycles.{Cycles}
 use Rattle.sheet.specs.Settings.{W}
 use Rattle.sheet.specs.declared.Settings.{Settings}
-use Rattle.model.specs.State.{thread, used, State, Thread}
+use Rattle.model.specs.State.{cycles, thread, used, State, Thread}
 use Rattle.model.specs.Step.{saved, withClock, withUsed, billed, addUsed, addHistory, charge}
-use Rattle.model.specs.Arrays.{cycles, stateOf}
+use Rattle.model.specs.Arrays.{stateOf}
 use Rattle.model.specs.declared.Clock.{Clock}
 use Rattle.model.proofs.Table.{thread-at}
 use Rattle.accounts.specs.Charged.{payerOf, Charged}

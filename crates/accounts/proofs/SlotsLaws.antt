@@ -5,9 +5,9 @@ use mathlib.Core.List.{List, map}
 use native.Mathlib.Omega.{arith}
 use lib.ListN.{length, getD, set, length-set}
 use lib.Seq.{getD-set-other}
+use Rattle.model.specs.State.{cycles}
 use Rattle.lists.proofs.Parts.{row-end}
 use Rattle.units.specs.declared.Cycles.{Cycles}
-use Rattle.model.specs.Arrays.{cycles}
 use Rattle.model.specs.Step.{clearHistory, lowerUsed}
 use Rattle.accounts.proofs.ChargingLaws.{map-set, used-at}
 use Rattle.accounts.specs.Lowered.{lowered}

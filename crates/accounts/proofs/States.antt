@@ -9,11 +9,11 @@ use Rattle.model.specs.Policy.{remaining, hasBudget}
 use Rattle.model.specs.Arrays.{stateOf}
 use Rattle.model.specs.declared.Clock.{Clock}
 use Rattle.accounts.proofs.ChargingLaws.{used-at}
-use Rattle.accounts.specs.Kept.{Weighed, Priced, Totals}
+use Rattle.accounts.specs.Kept.{Weighed, Priced, TotalsAre}
 use Rattle.accounts.specs.Solvency.{WeighedIn}
 
 module _ (c : Settings) (u : List ℕ) (k : Clock) (e r ps ns ms q : List ℕ) where
-  pub totals : Totals (stateOf c u k e r ps ns ms q) u
+  pub totals : TotalsAre (stateOf c u k e r ps ns ms q) u
   totals p b = sym (used-at u p)
 
   pub weighed : (budgets : List ℕ) (paying set : ℕ) → Priced c budgets paying → WeighedIn u budgets (C c) (c .count) set → Weighed (stateOf c u k e r ps ns ms q) set

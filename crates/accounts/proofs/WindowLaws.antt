@@ -12,9 +12,9 @@ use Rattle.units.specs.declared.Cycles.{Cycles}
 use Rattle.units.specs.declared.Ticks.{Ticks}
 use Rattle.sheet.specs.Settings.{W}
 use Rattle.sheet.specs.declared.Settings.{Settings}
-use Rattle.model.specs.State.{thread, used, State, Thread}
+use Rattle.model.specs.State.{cycles, thread, used, State, Thread}
 use Rattle.model.specs.Arrays.{stateOf}
-use Rattle.model.specs.Step.{Saved, saved, cycles, billed, addUsed, charge, moveSlot, clearHistory, lowerUsed, restart}
+use Rattle.model.specs.Step.{Saved, saved, billed, addUsed, charge, moveSlot, clearHistory, lowerUsed, restart}
 use Rattle.model.specs.declared.Clock.{Clock}
 use Rattle.model.proofs.Table.{thread-at}
 use Rattle.accounts.specs.Charged.{payerOf, Charged}

@@ -34,12 +34,12 @@ pub record Priced (c : Settings) (budgets : List ℕ) (set : ℕ) : Type 0 where
   pub pays : (p : ℕ) → p < 16 → inSet set p ≡ (ltb p (c .count) && not (eqb (budget c p) 0))
 
 -- the totals as numbers
-abbrev pub Totals : State → List ℕ → Type 0
-Totals s totals = (p : ℕ) → p < s .settings .count → getD totals p 0 ≡ used s p
+abbrev pub TotalsAre : State → List ℕ → Type 0
+TotalsAre s totals = (p : ℕ) → p < s .settings .count → getD totals p 0 ≡ used s p
 
 -- all that the decision looks at
 pub record Kept (s : State) (totals budgets tops firsts : List ℕ) (policy paying set solvent : ℕ) : Type 0 where
-  pub spent : Totals s totals
+  pub spent : TotalsAre s totals
   pub priced : Priced (s .settings) budgets paying
   pub led : Led s tops firsts set
   pub weighed : Weighed s solvent

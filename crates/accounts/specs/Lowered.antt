@@ -8,7 +8,7 @@ lowered w k zero u h = u
 lowered w k (suc p) u h = set (lowered w k p u h) p (getD u p 0 - getD h (p * w + k) 0)
 
 -- each total covers what stands in the slot
-pub record Held (u h : List ℕ) (w n k : ℕ) : Type 0 where
+pub record Covered (u h : List ℕ) (w n k : ℕ) : Type 0 where
   pub few : n ≤ 16
   pub inside : k < w
   pub rows : n * w ≤ length h

@@ -7,7 +7,7 @@ ghost use Rattle.units.specs.Units.{remainingOf, hasBudgetOf};
 ghost use Rattle.sheet.specs.Settings.{Limits};
 ghost use Rattle.model.specs.Step.{clearHistory};
 ghost use Rattle.accounts.specs.Kept.{Priced};
-ghost use Rattle.accounts.specs.Lowered.{lowered, Held};
+ghost use Rattle.accounts.specs.Lowered.{lowered, Covered};
 ghost use Rattle.accounts.specs.Solvency.{hasAt, WeighedIn, Reweighed};
 use sheet::Settings;
 use units::Cycles;
@@ -89,7 +89,7 @@ pub fn clear_slot(
     tick: Cycles,
     solvent: u16,
 ) -> u16
-    requires { ⌜ (length (now used) ≡ 16) × Held (now used) (now history) (window .0) count (slot .0) ⌝ }
+    requires { ⌜ (length (now used) ≡ 16) × Covered (now used) (now history) (window .0) count (slot .0) ⌝ }
     ensures { λ r. ⌜
         (now (used .exit) ≡ lowered (window .0) (slot .0) count (now (used .entry)) (now (history .entry)))
         × (now (history .exit) ≡ clearHistory (window .0) (slot .0) count (now (history .entry)))

@@ -12,7 +12,7 @@ ghost use lib.ListN.{length};
 ghost use Rattle.units.specs.Units.{nextOf};
 ghost use Rattle.sheet.specs.Settings.{W, C};
 ghost use Rattle.accounts.specs.Charged.{Payable, Charged};
-ghost use Rattle.accounts.specs.Lowered.{Held};
+ghost use Rattle.accounts.specs.Lowered.{Covered};
 ghost use Rattle.accounts.specs.Solvency.{WeighedIn, Reweighed};
 ghost use Rattle.accounts.specs.Window.{Moved, Restarted};
 
@@ -69,7 +69,7 @@ pub fn move_slot(
     solvent: u16,
 ) -> Account
     requires { ⌜
-        (length (now used) ≡ 16) × (c .slot .0 < W settings) × Held (now used) (now history) (W settings) (settings .count) (nextOf (c .slot .0) (W settings))
+        (length (now used) ≡ 16) × (c .slot .0 < W settings) × Covered (now used) (now history) (W settings) (settings .count) (nextOf (c .slot .0) (W settings))
         ⌝ }
     ensures { λ r. ⌜
         Moved settings (now (used .entry)) c (now (history .entry)) (now (used .exit)) (r .clock) (now (history .exit))

@@ -26,7 +26,7 @@ use Rattle.event.specs.declared.kinds.Action.the-variants.{Unknown, Tick, Creat
 use Rattle.decision.specs.Keeping.{KeptIn, Left, Changed, Lined, Joins}
 use Rattle.decision.proofs.LeadsLaws.{kept-as, left-kept}
 use Rattle.decision.proofs.States.{partition-is, priority-is, mask-is, valid}
-use Rattle.decision.specs.Follow.{Before, stateIn, Followed}
+use Rattle.decision.specs.Follow.{Before, stateBefore, Followed}
 
 -- what the model's action is for each kind
 module _ (s : State) (b : List ℕ) (t : ℕ) (n : t ≡ threadOf b) where
@@ -68,7 +68,7 @@ module _ (core : ℕ) (r ps ns ms q : List ℕ) (queued : ℕ) (tops firsts : Li
   o = h .before
 
   abbrev s₀ : State
-  s₀ = stateIn o
+  s₀ = stateBefore o
 
   abbrev line₀ : List ℕ
   line₀ = queueOf s₀

@@ -14,11 +14,11 @@ use Rattle.lists.specs.Lists.{any, keep, first, member, consIf}
 use Rattle.lists.proofs.Tests.{clash, both}
 use Rattle.lists.proofs.All.{any-member, member-keep, maximum-high, keep-append, keep-both, without-none}
 use Rattle.lists.proofs.Loops.{keep-more, keep-take}
-use Rattle.sets.specs.Bits.{inSet, Put, Taken, Only, Marked, Lowest}
+use Rattle.sets.specs.Bits.{inSet, Put, TakenOut, Only, Marked, Lowest}
 use Rattle.sets.proofs.Laws as bits
-use Rattle.model.specs.State.{allows}
+use Rattle.model.specs.State.{allows, mayRun}
 use Rattle.model.specs.Step.{leaves}
-use Rattle.decision.specs.Leads.{topOf, anyOf, levelOf, leadIn, raisedBy, numbers, mayRun, runnable}
+use Rattle.decision.specs.Leads.{topOf, anyOf, levelOf, leadIn, raisedBy, numbers, runnable}
 use Rattle.decision.specs.Keeping.{Right, RightAt, KeptIn, Stale, Left, Changed, Joins}
 use Rattle.decision.specs.declared.leads.Lead.{Lead}
 use Rattle.decision.proofs.LeadsKept.{lead-in}
@@ -207,7 +207,7 @@ module _ (core : ℕ) (ps ns ms line tops firsts : List ℕ) (set₀ left : ℕ)
     right = λ p b. s .right p b (ap (λ (k : ℕ). inSet k p) z ∙ bits.none p);
   }
 
-  pub stale-step : (p next set′ : ℕ) (x : Lead) → Lowest 16 left p → Taken 16 left p next → x ≡ leadIn (numbers ns) (runnable core ps ms p line)
+  pub stale-step : (p next set′ : ℕ) (x : Lead) → Lowest 16 left p → TakenOut 16 left p next → x ≡ leadIn (numbers ns) (runnable core ps ms p line)
       → Marked 16 set₀ p (not (eqb (x .top) 0)) set′ → Stale core ps ns ms line tops firsts set₀ left
       → Stale core ps ns ms line (set tops p (x .top)) (set firsts p (x .first)) set′ next
   stale-step p next set′ x l t e m s = record {

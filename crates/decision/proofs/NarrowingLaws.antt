@@ -10,12 +10,12 @@ use native.Mathlib.Omega.{arith}
 use native.Mathlib.Decide.{ℕ-discrete}
 use borrow.Author.Tests.{ltb-true, ltb-false, le-ltb, eq-eqb, ne-eqb, eqb-true}
 use Rattle.lists.proofs.Tests.{clash, both}
-use Rattle.sets.specs.Bits.{inSet, Put, Taken, Only, Lowest}
+use Rattle.sets.specs.Bits.{inSet, Put, TakenOut, Only, Lowest}
 use lib.Bits.{bitAnd}
 use Rattle.sets.proofs.Laws.{none, and-set}
 use Rattle.model.specs.Choices.{StrictWeak}
 use Rattle.model.proofs.Order.{fraction-weak}
-use Rattle.decision.specs.Narrowing.{Narrowed, Moved, firstBy, richer, higher, smaller}
+use Rattle.decision.specs.Narrowing.{Narrowed, OneMore, firstBy, richer, higher, smaller}
 
 -- ---- the orders
 
@@ -44,7 +44,7 @@ pub record Passed (R : ℕ → ℕ → Bool) (w left kept b : ℕ) : Type 0 wher
   pub behind : (i : ℕ) → i < 16 → inSet w i ≡ true → inSet left i ≡ false → inSet kept i ≡ false → R b i ≡ true
 
 -- what is no longer left was the lowest, or had gone before
-gone : (left q next i : ℕ) → i < 16 → Taken 16 left q next → inSet next i ≡ false → (i ≡ q) ⊎ (inSet left i ≡ false)
+gone : (left q next i : ℕ) → i < 16 → TakenOut 16 left q next → inSet next i ≡ false → (i ≡ q) ⊎ (inSet left i ≡ false)
 gone left q next i b t f = go (ℕ-discrete i q)
   where
     go : Dec (i ≡ q) → (i ≡ q) ⊎ (inSet left i ≡ false)
@@ -55,7 +55,7 @@ gone left q next i b t f = go (ℕ-discrete i q)
         one true e = e
         one false e = e
 
-still : (left q next i : ℕ) → i < 16 → Taken 16 left q next → inSet next i ≡ true → inSet left i ≡ true
+still : (left q next i : ℕ) → i < 16 → TakenOut 16 left q next → inSet next i ≡ true → inSet left i ≡ true
 still left q next i b t e = go (inSet left i) (sym (t i b) ∙ e)
   where
     go : (z : Bool) → (z && not (eqb i q)) ≡ true → z ≡ true
@@ -84,7 +84,7 @@ module _ (R : ℕ → ℕ → Bool) (weak : StrictWeak R) where
       go true g = g
       go false g = clash e (weak .negatively-transitive p i b g f)
 
-  pub passed-start : (w q left kept : ℕ) → Lowest 16 w q → Taken 16 w q left → Only 16 q kept → Passed R w left kept q
+  pub passed-start : (w q left kept : ℕ) → Lowest 16 w q → TakenOut 16 w q left → Only 16 q kept → Passed R w left kept q
   passed-start w q left kept l t o = record {
     low = l .inside;
     part = λ i b e. still w q left i b t e;
@@ -103,7 +103,7 @@ module _ (R : ℕ → ℕ → Bool) (weak : StrictWeak R) where
       never i b e g (inl s) = clash (here-only q kept (l .inside) o) (subst (λ (j : ℕ). inSet kept j ≡ false) s g)
       never i b e g (inr f) = clash e f
 
-  module _ (w left kept b : ℕ) (h : Passed R w left kept b) (q next : ℕ) (l : Lowest 16 left q) (t : Taken 16 left q next) where
+  module _ (w left kept b : ℕ) (h : Passed R w left kept b) (q next : ℕ) (l : Lowest 16 left q) (t : TakenOut 16 left q next) where
     mine : inSet w q ≡ true
     mine = h .part q (l .inside) (l .here)
 
@@ -196,7 +196,7 @@ module _ (R : ℕ → ℕ → Bool) (weak : StrictWeak R) where
 
     -- one number more, by the values of the best and of the new one
     passed-more : (A : Type 0) (value : ℕ → A) (old new v : A) (set : ℕ) → value b ≡ old → value q ≡ new
-        → Moved A (R q b) (R b q) old new kept q v set → (c : ℕ) × (value c ≡ v) × Passed R w next set c
+        → OneMore A (R q b) (R b q) old new kept q v set → (c : ℕ) × (value c ≡ v) × Passed R w next set c
     passed-more A value old new v set is-old is-new m = go (R q b) refl (R b q) refl
       where
         go : (y : Bool) → R q b ≡ y → (z : Bool) → R b q ≡ z → (c : ℕ) × (value c ≡ v) × Passed R w next set c
@@ -206,12 +206,12 @@ module _ (R : ℕ → ℕ → Bool) (weak : StrictWeak R) where
 
   -- the same where the order compares values
   pub passed-value : (A : Type 0) (S : A → A → Bool) (value : ℕ → A) → ((p q : ℕ) → R p q ≡ S (value p) (value q))
-      → (w left kept b q next : ℕ) (old new v : A) (set : ℕ) → Passed R w left kept b → Lowest 16 left q → Taken 16 left q next
-      → value b ≡ old → value q ≡ new → Moved A (S new old) (S old new) old new kept q v set → (c : ℕ) × (value c ≡ v) × Passed R w next set c
+      → (w left kept b q next : ℕ) (old new v : A) (set : ℕ) → Passed R w left kept b → Lowest 16 left q → TakenOut 16 left q next
+      → value b ≡ old → value q ≡ new → OneMore A (S new old) (S old new) old new kept q v set → (c : ℕ) × (value c ≡ v) × Passed R w next set c
   passed-value A S value same w left kept b q next old new v set h l t e n m =
       passed-more w left kept b h q next l t A value old new v set e n
-      (subst (λ (x : Bool). Moved A x (R b q) old new kept q v set) (sym (same q b ∙ ap₂ S n e))
-      (subst (λ (x : Bool). Moved A (S new old) x old new kept q v set) (sym (same b q ∙ ap₂ S e n)) m))
+      (subst (λ (x : Bool). OneMore A x (R b q) old new kept q v set) (sym (same q b ∙ ap₂ S n e))
+      (subst (λ (x : Bool). OneMore A (S new old) x old new kept q v set) (sym (same b q ∙ ap₂ S e n)) m))
 
   some-in : (set i : ℕ) → inSet set i ≡ true → set ≢ 0
   some-in set i e z = clash (subst (λ (k : ℕ). inSet k i ≡ true) z e) (none i)
@@ -235,13 +235,13 @@ module _ (R : ℕ → ℕ → Bool) (weak : StrictWeak R) where
           go false g = clash e (weak .negatively-transitive b i q f g)
 
 module _ (A : Type 0) (better worse : Bool) (old new : A) (kept p : ℕ) (value : A) (set : ℕ) where
-  pub moved-ahead : better ≡ true → value ≡ new → Only 16 p set → Moved A better worse old new kept p value set
+  pub moved-ahead : better ≡ true → value ≡ new → Only 16 p set → OneMore A better worse old new kept p value set
   moved-ahead e v o = record { ahead = λ f. (v, o); behind = λ f g. clash e f; level = λ f g. clash e f }
 
-  pub moved-behind : better ≡ false → worse ≡ true → value ≡ old → set ≡ kept → Moved A better worse old new kept p value set
+  pub moved-behind : better ≡ false → worse ≡ true → value ≡ old → set ≡ kept → OneMore A better worse old new kept p value set
   moved-behind e f v o = record { ahead = λ g. clash g e; behind = λ g k. (v, o); level = λ g k. clash f k }
 
-  pub moved-level : better ≡ false → worse ≡ false → value ≡ old → Put 16 kept p set → Moved A better worse old new kept p value set
+  pub moved-level : better ≡ false → worse ≡ false → value ≡ old → Put 16 kept p set → OneMore A better worse old new kept p value set
   moved-level e f v o = record { ahead = λ g. clash g e; behind = λ g k. clash k f; level = λ g k. (v, o) }
 
 -- ---- has budget

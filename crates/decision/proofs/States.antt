@@ -13,14 +13,14 @@ use Rattle.lists.proofs.Tests.{both}
 use Rattle.lists.proofs.All.{member-keep, maximum-found}
 use Rattle.lists.proofs.Loops.{member-here}
 use Rattle.sheet.specs.declared.Settings.{Settings}
-use Rattle.model.specs.State.{absent, allows, thread, State, Thread}
+use Rattle.model.specs.State.{absent, allows, thread, State, Thread, mayRun}
 use Rattle.model.specs.Policy.{candidates, competing, topPriority, chosen}
 use Rattle.model.specs.Facts.{Settled}
 use Rattle.model.specs.Arrays.{threadIn, threadsIn, stateOf, Regular}
 use Rattle.model.specs.declared.Clock.{Clock}
 use Rattle.model.proofs.Table.{threads-length, thread-at}
 use Rattle.accounts.specs.Kept.{Led, level}
-use Rattle.decision.specs.Leads.{topOf, leadOf, anyOf, levelOf, numbers, mayRun, runnable}
+use Rattle.decision.specs.Leads.{topOf, leadOf, anyOf, levelOf, numbers, runnable}
 use Rattle.decision.specs.Keeping.{KeptIn, Lined}
 
 module _ (c : Settings) (u : List ℕ) (k : Clock) (e r ps ns ms q : List ℕ) (sized : Regular e r ps ns ms) where

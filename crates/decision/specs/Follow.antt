@@ -27,8 +27,8 @@ pub record Before : Type 0 where
   pub masks : List ℕ
   pub queue : List ℕ
 
-abbrev pub stateIn : Before → State
-stateIn b = stateOf (b .settings) (b .totals) (b .clock) (b .exists) (b .ready) (b .partitions) (b .priorities) (b .masks) (b .queue)
+abbrev pub stateBefore : Before → State
+stateBefore b = stateOf (b .settings) (b .totals) (b .clock) (b .exists) (b .ready) (b .partitions) (b .priorities) (b .masks) (b .queue)
 
 -- the arrays hold the threads and the queue that the model's action gives from a settled state before, of whose threads the event names one that it
 -- may name, and of which the leads are kept; t is that thread, and p was its partition
@@ -37,8 +37,8 @@ pub record Followed (core : ℕ) (ready partitions priorities masks queue : List
   pub history : List ℕ
   pub bytes : List ℕ
   pub exists : List ℕ
-  pub settled : Settled (stateIn before) history
-  pub names : Named (stateIn before) bytes
+  pub settled : Settled (stateBefore before) history
+  pub names : Named (stateBefore before) bytes
   pub sizes : Regular (before .exists) (before .ready) (before .partitions) (before .priorities) (before .masks)
   pub still : Regular exists ready partitions priorities masks
   pub full : length queue ≡ 64
@@ -47,9 +47,9 @@ pub record Followed (core : ℕ) (ready partitions priorities masks queue : List
   pub named : t ≡ threadOf bytes
   pub home : p ≡ getD (before .partitions) t 0
   pub on : core ≡ before .settings .core
-  pub threads : threadsIn exists ready partitions priorities masks ≡ act (stateIn before) bytes .threads
-  pub line : take queued queue ≡ queueOf (act (stateIn before) bytes)
-  pub kept : KeptIn core (before .partitions) (before .priorities) (before .masks) (queueOf (stateIn before)) tops firsts set
+  pub threads : threadsIn exists ready partitions priorities masks ≡ act (stateBefore before) bytes .threads
+  pub line : take queued queue ≡ queueOf (act (stateBefore before) bytes)
+  pub kept : KeptIn core (before .partitions) (before .priorities) (before .masks) (queueOf (stateBefore before)) tops firsts set
 
 -- what is left of it where the event set a priority: by the thread's flag, the leads are right, or they were with its old priority
 pub record FollowedPriority (core : ℕ) (ready partitions priorities masks queue : List ℕ) (queued : ℕ) (tops firsts : List ℕ) (set t : ℕ) : Type 0 where

@@ -1,11 +1,11 @@
 -- What a partition would run, from the queued threads l that this core may run, in the queue's order, and their priorities f.
 use Prim.Native.Nat.{ℕ, _+_}
-use mathlib.Core.Bool.{Bool, true, cond, _&&_}
+use mathlib.Core.Bool.{Bool, true, cond}
 use mathlib.Core.List.{List, map}
 use lib.ListN.{getD}
 use lib.Dec.{eqb, ltb}
 use Rattle.lists.specs.Lists.{any, keep, first, maximum}
-use Rattle.model.specs.State.{allows}
+use Rattle.model.specs.State.{mayRun}
 use Rattle.decision.specs.declared.leads.Lead.{Lead}
 
 -- the top priority, and the first thread that has it
@@ -36,10 +36,6 @@ raisedBy old priority t = cond (ltb (old .top) (priority + 1)) (record { top = p
 abbrev pub numbers : List ℕ → ℕ → ℕ
 numbers l t = getD l t 0
 
--- a thread of partition p that the core may run
-abbrev pub mayRun : ℕ → ℕ → ℕ → ℕ → Bool
-mayRun partition mask p core = eqb partition p && allows mask core
-
--- those in the line
+-- the threads in the line that are partition p's and that the core may run
 unfoldable pub runnable : ℕ → List ℕ → List ℕ → ℕ → List ℕ → List ℕ
 runnable core partitions masks p line = keep (λ t. mayRun (getD partitions t 0) (getD masks t 0) p core) line

@@ -44,7 +44,7 @@ smallerThan a b = smallerFraction (a .used .0) (a .budget .0) (b .used .0) (b .b
 -- ---- one partition more
 
 -- the best so far have the value `old`, p has `new`: a better one is alone from there on, a worse one changes nothing, an equal one joins
-pub record Moved (A : Type 0) (better worse : Bool) (old new : A) (kept p : ℕ) (value : A) (set : ℕ) : Type 0 where
+pub record OneMore (A : Type 0) (better worse : Bool) (old new : A) (kept p : ℕ) (value : A) (set : ℕ) : Type 0 where
   pub ahead : better ≡ true → (value ≡ new) × Only 16 p set
   pub behind : better ≡ false → worse ≡ true → (value ≡ old) × (set ≡ kept)
   pub level : better ≡ false → worse ≡ false → (value ≡ old) × Put 16 kept p set

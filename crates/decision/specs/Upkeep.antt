@@ -23,7 +23,7 @@ pub record Held (c : Settings) (totals partitions priorities masks line budgets 
   pub weighed : WeighedIn totals budgets (C c) (c .count) (sets .solvent)
 
 -- the decision for every settled state of which these are kept
-abbrev pub Chooses : Settings → List ℕ → List ℕ → List ℕ → List ℕ → Sets → Decision → Type 0
-Chooses c totals budgets tops firsts sets d =
+abbrev pub DecidesKept : Settings → List ℕ → List ℕ → List ℕ → List ℕ → Sets → Decision → Type 0
+DecidesKept c totals budgets tops firsts sets d =
     (k : Clock) (e r ps ns ms q h : List ℕ) → Regular e r ps ns ms → Settled (stateOf c totals k e r ps ns ms q) h
     → Held c totals ps ns ms (take (k .queued) q) budgets tops firsts sets → decidedOf d ≡ decide (stateOf c totals k e r ps ns ms q)

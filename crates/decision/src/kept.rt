@@ -4,7 +4,7 @@ ghost use Rattle.sheet.specs.Settings.{Limits};
 ghost use Prim.Native.Nat.{_<_};
 ghost use Rattle.decision.specs.Keeping.{KeptIn, Lined};
 ghost use Rattle.decision.specs.Follow.{Followed, FollowedPriority};
-ghost use Rattle.decision.specs.Upkeep.{Held, Chooses};
+ghost use Rattle.decision.specs.Upkeep.{Held, DecidesKept};
 use crate::leads;
 use accounts::solvency;
 use event::kinds::Action;
@@ -66,7 +66,7 @@ pub fn choose(
     firsts: &[u8; 16],
     sets: Sets,
 ) -> Decision
-    ensures { λ r. ⌜ Chooses settings (now (used .entry)) (now (budgets .entry)) (now (tops .entry)) (now (firsts .entry)) sets r ⌝ }
+    ensures { λ r. ⌜ DecidesKept settings (now (used .entry)) (now (budgets .entry)) (now (tops .entry)) (now (firsts .entry)) sets r ⌝ }
 {
     crate::decide(
         used,

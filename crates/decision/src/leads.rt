@@ -4,7 +4,8 @@ ghost use mathlib.Core.Path.{_≡_};
 ghost use mathlib.Core.Bool.{not, cond};
 ghost use Prim.Native.Nat.{_+_, _≤_, _<_};
 ghost use lib.ListN.{getD, take};
-ghost use Rattle.decision.specs.Leads.{raisedBy, mayRun};
+ghost use Rattle.model.specs.State.{mayRun};
+ghost use Rattle.decision.specs.Leads.{raisedBy};
 ghost use Rattle.decision.specs.Keeping.{KeptIn, Stale, Left, Changed, Lined, Joins};
 use threads::masks;
 

@@ -5,7 +5,7 @@ ghost use mathlib.Core.Path.{_≡_};
 ghost use Prim.Native.Nat.{ℕ, _<_};
 ghost use lib.Dec.{ltb};
 ghost use lib.ListN.{getD};
-ghost use Rattle.decision.specs.Narrowing.{Narrowed, Moved, richer, higher, smaller, fraction, smallerThan};
+ghost use Rattle.decision.specs.Narrowing.{Narrowed, OneMore, richer, higher, smaller, fraction, smallerThan};
 use units::Cycles;
 use units::Fraction;
 
@@ -36,7 +36,7 @@ pub fn funded(among: u16, solvent: u16) -> u16
 // The partitions of the top priority after one more.
 fn raise(k: Peak, p: u8, top: u16) -> Peak
     requires { ⌜ p < 16 ⌝ }
-    ensures { λ r. ⌜ Moved ℕ (ltb (k .top) top) (ltb top (k .top)) (k .top) top (k .kept) p (r .top) (r .kept) ⌝ }
+    ensures { λ r. ⌜ OneMore ℕ (ltb (k .top) top) (ltb top (k .top)) (k .top) top (k .kept) p (r .top) (r .kept) ⌝ }
 {
     if k.top < top {
         return Peak {
@@ -94,7 +94,7 @@ fn fraction_at(used: &[u32; 16], budgets: &[u32; 16], p: u8) -> Fraction
 // The partitions of the smallest fraction after one more.
 fn lower(k: Front, p: u8, x: Fraction) -> Front
     requires { ⌜ p < 16 ⌝ }
-    ensures { λ r. ⌜ Moved Fraction (smallerThan x (k .fraction)) (smallerThan (k .fraction) x) (k .fraction) x (k .kept) p (r .fraction) (r .kept) ⌝ }
+    ensures { λ r. ⌜ OneMore Fraction (smallerThan x (k .fraction)) (smallerThan (k .fraction) x) (k .fraction) x (k .kept) p (r .fraction) (r .kept) ⌝ }
 {
     let best = k.fraction;
     if units::smaller_fraction(x, best) {

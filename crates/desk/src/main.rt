@@ -64,7 +64,19 @@ fn answer(
     let lines = batch::least(records, out.len() / 12);
     let written = 12 * lines;
     doors::batch::run(
-        settings, shares, used, clock, exists, ready, partitions, priorities, masks, queue, history, events, out,
+        settings,
+        shares,
+        used,
+        clock,
+        exists,
+        ready,
+        partitions,
+        priorities,
+        masks,
+        queue,
+        history,
+        events,
+        out,
     );
     io::write_all(STDOUT_FILENO, &out[..written])
 }

@@ -22,7 +22,7 @@ use Rattle.decision.specs.Keeping.{Lined}
 use Rattle.decision.proofs.States.{lined}
 use Rattle.decision.specs.Upkeep.{Held}
 use Rattle.decision.specs.declared.kept.Sets.{Sets}
-use Rattle.scheduler.specs.Stepping.{Whole, Answered, Still}
+use Rattle.scheduler.specs.Stepping.{Whole, StepAnswered, Still}
 use Rattle.scheduler.proofs.SchedulerLaws.{taken-arrays}
 use Rattle.doors.specs.Inner.{Room, Entered, Finished}
 
@@ -68,7 +68,7 @@ module _ (c : Settings) (u : List ℕ) (k : Clock) (e r p n m q h : List ℕ) (r
 
   module _ (u′ : List ℕ) (k′ : Clock) (e′ r′ p′ n′ m′ q′ h′ : List ℕ) where
     pub entered : (b : List ℕ) (w : Verdict) (budgets tops firsts : List ℕ) (sets : Sets)
-        → Answered c v b w u′ k′ e′ r′ p′ n′ m′ q′ h′ budgets tops firsts sets → Still v b u k e r p n m q h u′ k′ e′ r′ p′ n′ m′ q′ h′
+        → StepAnswered c v b w u′ k′ e′ r′ p′ n′ m′ q′ h′ budgets tops firsts sets → Still v b u k e r p n m q h u′ k′ e′ r′ p′ n′ m′ q′ h′
         → Entered c u k e r p n m q h b w u′ k′ e′ r′ p′ n′ m′ q′ h′
     entered b w budgets tops firsts sets a still = record {
       line = a .line;

@@ -15,16 +15,16 @@ use Rattle.sheet.specs.declared.Settings.{Settings}
 use Rattle.model.specs.Answers.{Line, lineOf, answerLine}
 use Rattle.model.specs.Arrays.{Sized, stateOf}
 use Rattle.model.specs.Doors.{answerTo, afterRun, linesAfter}
-use Rattle.model.specs.Lent.{Lent, lent, settingsIn, clockIn, settingsOf, clockOf, savedIn, refusedArrays, refusedIn}
+use Rattle.model.specs.Lent.{Lent, lent, settingsFrom, clockFrom, lentSettings, lentClock, savedIn, refusedArrays, refusedIn}
 use Rattle.model.specs.Step.{saved, Answer, answer, nothing}
 use Rattle.model.specs.declared.Clock.{Clock}
 use Rattle.model.specs.declared.Verdict.{Verdict}
 use Rattle.model.specs.declared.Verdict.the-variants as verdict
 use Rattle.scheduler.specs.Stepping.{Same}
 use Rattle.doors.specs.Doors.{Sizes, Begun, Answered, Ran}
-use Rattle.doors.specs.Inner.{Room, Stored, Entered, Finished}
+use Rattle.doors.specs.Inner.{Room, ClockStored, Entered, Finished}
 
-pub room : (c : Settings) (a b u e r p n m q : List ℕ) → c ≡ settingsIn a b → length u ≡ 16 → length q ≡ 64 → Sized e r p n m → Room c u e r p n m q
+pub room : (c : Settings) (a b u e r p n m q : List ℕ) → c ≡ settingsFrom a b → length u ≡ 16 → length q ≡ 64 → Sized e r p n m → Room c u e r p n m q
 room c a b u e r p n m q i wide full sized = record {
   sixteen = wide;
   shares = ap (λ (z : Settings). length (z .shares)) i ∙ table-length _ 16;
@@ -45,10 +45,10 @@ module _ (x : Lent) where
 
 -- ---- a door that read c and k from x
 
-module _ (x : Lent) (c : Settings) (k : Clock) (ec : c ≡ settingsOf x) (ek : k ≡ clockOf x) where
+module _ (x : Lent) (c : Settings) (k : Clock) (ec : c ≡ lentSettings x) (ek : k ≡ lentClock x) where
   -- what is known of c and k is known of x
-  pub as-lent : (P : Settings → Clock → Type 0) → P c k → P (settingsOf x) (clockOf x)
-  as-lent P f = subst (P (settingsOf x)) ek (subst (λ (i : Settings). P i k) ec f)
+  pub as-lent : (P : Settings → Clock → Type 0) → P c k → P (lentSettings x) (lentClock x)
+  as-lent P f = subst (P (lentSettings x)) ek (subst (λ (i : Settings). P i k) ec f)
 
   abbrev pub Number : ℕ → Settings → Clock → Type 0
   Number i a b = i ≡ refusedArrays a (x .used) b (x .exists) (x .ready) (x .partitions) (x .priorities) (x .masks) (x .queue) (x .history)
@@ -77,11 +77,11 @@ module _ (x : Lent) (c : Settings) (k : Clock) (ec : c ≡ settingsOf x) (ek : k
     Inside b w a j = Entered a (x .used) j (x .exists) (x .ready) (x .partitions) (x .priorities) (x .masks) (x .queue) (x .history) b w u′ k′ e′ r′ p′ n′ m′ q′ h′
 
     pub answered-yes : Sizes x → (b : List ℕ) (o : Outcome) (w : Verdict) (refusal : ℕ) → o ≡ outcome.Accepted → Number (outcomeOf o) c k
-        → refusal ≡ lineOf w .refusal → Inside b w c k → Stored (x .clock) refusal k′ clock′ → Answered x b (lineOf w) y
+        → refusal ≡ lineOf w .refusal → Inside b w c k → ClockStored (x .clock) refusal k′ clock′ → Answered x b (lineOf w) y
     answered-yes sizes b o w refusal f i g d₀ kept = record {
       line = d .line ∙ sym (ap answerLine (answer-yes x b z));
-      after = ap (λ (j : Clock). saved (stateOf (settingsOf x) u′ j e′ r′ p′ n′ m′ q′) h′) clock-is ∙ d .after ∙ sym (ap (λ (a : Answer). a .after) (answer-yes x b z));
-      taken = λ _. ap (λ (j : Clock). refusedArrays (settingsOf x) u′ j e′ r′ p′ n′ m′ q′ h′) clock-is ∙ d .taken;
+      after = ap (λ (j : Clock). saved (stateOf (lentSettings x) u′ j e′ r′ p′ n′ m′ q′) h′) clock-is ∙ d .after ∙ sym (ap (λ (a : Answer). a .after) (answer-yes x b z));
+      taken = λ _. ap (λ (j : Clock). refusedArrays (lentSettings x) u′ j e′ r′ p′ n′ m′ q′ h′) clock-is ∙ d .taken;
       still = λ j. whole-same (λ l. j (ap (λ (a : Answer). a .refusal) (answer-yes x b z) ∙ sym is ∙ l)) (d .still (λ l. j (ap (λ (a : Answer). a .refusal) (answer-yes x b z) ∙ l)));
       sizes = sizes;
     }
@@ -89,20 +89,20 @@ module _ (x : Lent) (c : Settings) (k : Clock) (ec : c ≡ settingsOf x) (ek : k
         z : refusedIn x ≡ 0
         z = sym (number o i) ∙ ap outcomeOf f
 
-        d : Inside b w (settingsOf x) (clockOf x)
+        d : Inside b w (lentSettings x) (lentClock x)
         d = as-lent (Inside b w) d₀
 
         is : refusal ≡ answer (savedIn x) b .refusal
         is = g ∙ ap (λ (l : Line). l .refusal) (d .line)
 
-        clock-is : clockIn clock′ ≡ k′
+        clock-is : clockFrom clock′ ≡ k′
         clock-is = go (ℕ-discrete refusal 0)
           where
-            go : Dec (refusal ≡ 0) → clockIn clock′ ≡ k′
+            go : Dec (refusal ≡ 0) → clockFrom clock′ ≡ k′
             go (yes j) = kept .taken j
-            go (no j) = ap clockIn (kept .still j) ∙ sym (d .still (λ l. j (is ∙ l)) .clock)
+            go (no j) = ap clockFrom (kept .still j) ∙ sym (d .still (λ l. j (is ∙ l)) .clock)
 
-        whole-same : refusal ≢ 0 → Same (x .used) (clockOf x) (x .exists) (x .ready) (x .partitions) (x .priorities) (x .masks) (x .queue) (x .history) u′ k′ e′ r′ p′ n′ m′ q′ h′ → y ≡ x
+        whole-same : refusal ≢ 0 → Same (x .used) (lentClock x) (x .exists) (x .ready) (x .partitions) (x .priorities) (x .masks) (x .queue) (x .history) u′ k′ e′ r′ p′ n′ m′ q′ h′ → y ≡ x
         whole-same j s = λ i.
             lent (x .settings) (x .shares) (s .totals i) (kept .still j i) (s .exists i) (s .ready i) (s .partitions i) (s .priorities i) (s .masks i) (s .queue i) (s .history i)
 
@@ -112,17 +112,17 @@ module _ (x : Lent) (c : Settings) (k : Clock) (ec : c ≡ settingsOf x) (ek : k
     Throughout events lines lines′ a j = Finished a (x .used) j (x .exists) (x .ready) (x .partitions) (x .priorities) (x .masks) (x .queue) (x .history) events lines u′ k′ e′ r′ p′ n′ m′ q′ h′ lines′
 
     pub ran-yes : Sizes x → (events lines lines′ : List ℕ) (o : Outcome) → o ≡ outcome.Accepted → Number (outcomeOf o) c k
-        → Throughout events lines lines′ c k → Stored (x .clock) 0 k′ clock′ → Ran x events lines (outcomeOf o) y lines′
+        → Throughout events lines lines′ c k → ClockStored (x .clock) 0 k′ clock′ → Ran x events lines (outcomeOf o) y lines′
     unfolding afterRun linesAfter
     ran-yes sizes events lines lines′ o f i d₀ kept =
         let z : refusedIn x ≡ 0 = sym (number o i) ∙ ap outcomeOf f in
-        let d : Throughout events lines lines′ (settingsOf x) (clockOf x) = as-lent (Throughout events lines lines′) d₀ in
-        let clock-is : clockIn clock′ ≡ k′ = kept .taken refl in
+        let d : Throughout events lines lines′ (lentSettings x) (lentClock x) = as-lent (Throughout events lines lines′) d₀ in
+        let clock-is : clockFrom clock′ ≡ k′ = kept .taken refl in
         record {
           refusal = number o i;
-          after = rw z (ap (λ (j : Clock). saved (stateOf (settingsOf x) u′ j e′ r′ p′ n′ m′ q′) h′) clock-is ∙ d .after);
+          after = rw z (ap (λ (j : Clock). saved (stateOf (lentSettings x) u′ j e′ r′ p′ n′ m′ q′) h′) clock-is ∙ d .after);
           written = rw z (d .written);
-          taken = λ _. ap (λ (j : Clock). refusedArrays (settingsOf x) u′ j e′ r′ p′ n′ m′ q′ h′) clock-is ∙ d .taken;
+          taken = λ _. ap (λ (j : Clock). refusedArrays (lentSettings x) u′ j e′ r′ p′ n′ m′ q′ h′) clock-is ∙ d .taken;
           still = λ j. absurd (j z);
           sizes = sizes;
         }

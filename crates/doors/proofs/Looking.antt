@@ -18,7 +18,7 @@ use Rattle.model.specs.Arrays.{stateOf}
 use Rattle.model.specs.Answers.{Remainder, decisionLine, refusalLine}
 use Rattle.model.specs.Doors.{decision, refusedRemaining, remainder}
 use Rattle.model.specs.Facts.{Fit}
-use Rattle.model.specs.Lent.{Lent, settingsOf, clockOf, stateIn, refusedIn}
+use Rattle.model.specs.Lent.{Lent, lentSettings, lentClock, stateIn, refusedIn}
 use Rattle.model.specs.Policy.{Decided, decide, remaining}
 use Rattle.model.specs.declared.Clock.{Clock}
 use Rattle.model.proofs.Accepted.{fit-of}
@@ -27,7 +27,7 @@ use Rattle.model.proofs.Flags.{accepted}
 use Rattle.accounts.proofs.ChargingLaws.{used-at}
 use Rattle.doors.proofs.Lending.{Number, as-lent, number}
 
-module _ (x : Lent) (c : Settings) (k : Clock) (ec : c ≡ settingsOf x) (ek : k ≡ clockOf x) (o : Outcome) (i : Number x c k ec ek (outcomeOf o) c k) where
+module _ (x : Lent) (c : Settings) (k : Clock) (ec : c ≡ lentSettings x) (ek : k ≡ lentClock x) (o : Outcome) (i : Number x c k ec ek (outcomeOf o) c k) where
   refused : (r : Refusal) → o ≡ outcome.Refused r → refusedIn x ≡ numberOf r
   refused r f = sym (number x c k ec ek o i) ∙ ap outcomeOf f
 
@@ -56,7 +56,7 @@ module _ (x : Lent) (c : Settings) (k : Clock) (ec : c ≡ settingsOf x) (ek : k
 
   module _ (f : o ≡ outcome.Accepted) where
     fine : Fit (stateIn x) (x .history)
-    fine = fit-of (stateIn x) (x .history) (accepted (settingsOf x) (x .used) (clockOf x) (x .exists) (x .ready) (x .partitions) (x .priorities) (x .masks) (x .queue) (x .history) (taken f) .2)
+    fine = fit-of (stateIn x) (x .history) (accepted (lentSettings x) (x .used) (lentClock x) (x .exists) (x .ready) (x .partitions) (x .priorities) (x .masks) (x .queue) (x .history) (taken f) .2)
 
     pub limits : Limits c
     limits = rw ec (fine .sound .settled .limits)
@@ -65,12 +65,12 @@ module _ (x : Lent) (c : Settings) (k : Clock) (ec : c ≡ settingsOf x) (ek : k
       pub remaining-place : c .count ≤ p → _≡_ {A = Remainder} (record { refusal = 12; remaining = pos 0 }) (remainder x p)
       unfolding remainder refusedRemaining
       remaining-place l =
-          let out : settingsOf x .count ≤ p = rw ec at l in
-          rw (taken f, le-leb (settingsOf x .count) p out)
+          let out : lentSettings x .count ≤ p = rw ec at l in
+          rw (taken f, le-leb (lentSettings x .count) p out)
 
       pub used-low : p < c .count → getD (x .used) p 0 < 2 ^ 32
       used-low l =
-          let inside : p < settingsOf x .count = rw ec at l in
+          let inside : p < lentSettings x .count = rw ec at l in
           let s = fine .sound .settled in
           omega (arith, total-fits (stateIn x) (x .history) (fine .room) s p 0 inside (omega (arith, s .books .since-high)), used-at (x .used) p)
 
@@ -78,8 +78,8 @@ module _ (x : Lent) (c : Settings) (k : Clock) (ec : c ≡ settingsOf x) (ek : k
           → _≡_ {A = Remainder} (record { refusal = 0; remaining = z }) (remainder x p)
       unfolding remainder refusedRemaining remaining budget
       remaining-yes l z b g e =
-          let inside : p < settingsOf x .count = rw ec at l in
-          let whole : b ≡ budgetOf (share (settingsOf x) p) (W (settingsOf x)) (C (settingsOf x)) = g ∙ ap (λ (a : Settings). budgetOf (share a p) (W a) (C a)) ec in
-          let told : z ≡ remainingOf (budgetOf (share (settingsOf x) p) (W (settingsOf x)) (C (settingsOf x))) (used (stateIn x) p) =
+          let inside : p < lentSettings x .count = rw ec at l in
+          let whole : b ≡ budgetOf (share (lentSettings x) p) (W (lentSettings x)) (C (lentSettings x)) = g ∙ ap (λ (a : Settings). budgetOf (share a p) (W a) (C a)) ec in
+          let told : z ≡ remainingOf (budgetOf (share (lentSettings x) p) (W (lentSettings x)) (C (lentSettings x))) (used (stateIn x) p) =
           e ∙ ap (λ (n : ℕ). remainingOf n (getD (x .used) p 0)) whole ∙ ap (remainingOf _) (sym (used-at (x .used) p)) in
-          rw (taken f, lt-leb (settingsOf x .count) p inside, told)
+          rw (taken f, lt-leb (lentSettings x .count) p inside, told)

@@ -23,11 +23,11 @@ use Rattle.sheet.proofs.Within.{limits-of}
 use Rattle.sheet.proofs.Sheets.{sheet-within, sheet-clear}
 use Rattle.sheet.specs.Sheet as Sheet
 use Rattle.sheet.specs.declared.Settings.{Settings}
-use Rattle.model.specs.State.{absent}
-use Rattle.model.specs.Arrays.{cycles, threadIn, threadsIn, plain}
+use Rattle.model.specs.State.{cycles, absent}
+use Rattle.model.specs.Arrays.{threadIn, threadsIn, plain}
 use Rattle.model.specs.Doors.{refusedStart}
 use Rattle.model.specs.Event.{refusedState}
-use Rattle.model.specs.Lent.{Lent, lent, settingsIn, settingsOf, clockOf, stateIn, savedIn}
+use Rattle.model.specs.Lent.{Lent, lent, settingsFrom, lentSettings, lentClock, stateIn, savedIn}
 use Rattle.model.proofs.Accepted.{of-fit}
 use Rattle.model.proofs.Flags.{as-state}
 use Rattle.invariants.proofs.Fresh.{start-good}
@@ -71,7 +71,7 @@ no-cycles = refl
 
 -- ---- the state
 
-module _ (c : Settings) (h h′ a b : List ℕ) (e : settingsIn a b ≡ c) (f : h′ ≡ replicate (c .count * W c) 0 ++ drop (c .count * W c) h) where
+module _ (c : Settings) (h h′ a b : List ℕ) (e : settingsFrom a b ≡ c) (f : h′ ≡ replicate (c .count * W c) 0 ++ drop (c .count * W c) h) where
   pub begun : Fresh c h (lent a b (replicate 16 0) (0 ∷ 0 ∷ 0 ∷ 0 ∷ 255 ∷ []) (replicate 64 0) (replicate 64 0) (replicate 64 0) (replicate 64 0) (replicate 64 0) (replicate 64 0) h′)
   begun = record {
     after = λ i. record {
@@ -151,6 +151,6 @@ module _ (x : Lent) (sheet : List ℕ) where
         record {
           refusal = ap outcomeOf f ∙ sym z;
           after = λ _. same;
-          taken = λ _. as-state (settingsOf y) (y .used) (clockOf y) (y .exists) (y .ready) (y .partitions) (y .priorities) (y .masks) (y .queue) (y .history) (d .exists) (d .ready) ∙ fine;
+          taken = λ _. as-state (lentSettings y) (y .used) (lentClock y) (y .exists) (y .ready) (y .partitions) (y .priorities) (y .masks) (y .queue) (y .history) (d .exists) (d .ready) ∙ fine;
           still = λ n. absurd (n (ap outcomeOf f));
         }

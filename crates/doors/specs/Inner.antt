@@ -9,7 +9,7 @@ use Rattle.sheet.specs.declared.Settings.{Settings}
 use Rattle.model.specs.Answers.{lineOf, answerLine}
 use Rattle.model.specs.Arrays.{Sized, stateOf, plain}
 use Rattle.model.specs.Doors.{takenBy}
-use Rattle.model.specs.Lent.{Lent, clockIn, savedIn, refusedArrays}
+use Rattle.model.specs.Lent.{Lent, clockFrom, savedIn, refusedArrays}
 use Rattle.model.specs.Run.{fresh, run, after}
 use Rattle.model.specs.Step.{saved, answer}
 use Rattle.model.specs.Stream.{eventsIn, linesOf}
@@ -25,8 +25,8 @@ pub record Room (c : Settings) (u e r p n m q : List ℕ) : Type 0 where
   pub full : length q ≡ 64
 
 -- the clock k was stored where nothing was refused, and nothing where something was
-pub record Stored (clock : List ℕ) (refusal : ℕ) (k : Clock) (clock′ : List ℕ) : Type 0 where
-  pub taken : refusal ≡ 0 → clockIn clock′ ≡ k
+pub record ClockStored (clock : List ℕ) (refusal : ℕ) (k : Clock) (clock′ : List ℕ) : Type 0 where
+  pub taken : refusal ≡ 0 → clockFrom clock′ ≡ k
   pub still : refusal ≢ 0 → clock′ ≡ clock
 
 -- the event b was answered by w on a state that is not refused

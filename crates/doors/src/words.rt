@@ -2,8 +2,8 @@
 ghost use mathlib.Core.Path.{_≡_};
 ghost use lib.ListN.{length};
 ghost use Rattle.model.specs.Arrays.{Sized};
-ghost use Rattle.model.specs.Lent.{sharesIn, settingsIn, clockIn};
-ghost use Rattle.doors.specs.Inner.{Stored};
+ghost use Rattle.model.specs.Lent.{sharesFrom, settingsFrom, clockFrom};
+ghost use Rattle.doors.specs.Inner.{ClockStored};
 use model::Clock;
 use sheet::Settings;
 use units::Cycles;
@@ -12,7 +12,7 @@ use units::Ticks;
 
 // The shares as the sheet's type.
 fn percents(n: &[u32; 16]) -> [Percent; 16]
-    ensures { λ r. ⌜ r ≡ sharesIn (now (n .entry)) ⌝ }
+    ensures { λ r. ⌜ r ≡ sharesFrom (now (n .entry)) ⌝ }
 {
     [
         Percent(n[0]),
@@ -36,7 +36,7 @@ fn percents(n: &[u32; 16]) -> [Percent; 16]
 
 // W, C, P, M and the count; the shares.
 pub fn settings_in(numbers: &[u32; 5], shares: &[u32; 16]) -> Settings
-    ensures { λ r. ⌜ r ≡ settingsIn (now (numbers .entry)) (now (shares .entry)) ⌝ }
+    ensures { λ r. ⌜ r ≡ settingsFrom (now (numbers .entry)) (now (shares .entry)) ⌝ }
 {
     let window = Ticks(numbers[0]);
     let tick = Cycles(numbers[1]);
@@ -54,7 +54,7 @@ pub fn settings_in(numbers: &[u32; 5], shares: &[u32; 16]) -> Settings
 // The settings are stored.
 pub fn keep_settings(numbers: &mut [u32; 5], shares: &mut [u32; 16], s: Settings)
     requires { ⌜ length (s .shares) ≡ 16 ⌝ }
-    ensures { λ _. ⌜ settingsIn (now (numbers .exit)) (now (shares .exit)) ≡ s ⌝ }
+    ensures { λ _. ⌜ settingsFrom (now (numbers .exit)) (now (shares .exit)) ≡ s ⌝ }
 {
     let list = s.shares;
     *numbers = [s.window.0, s.tick.0, s.policy, s.core, s.count];
@@ -64,7 +64,7 @@ pub fn keep_settings(numbers: &mut [u32; 5], shares: &mut [u32; 16], s: Settings
 // The shares as numbers.
 fn amounts(list: [Percent; 16]) -> [u32; 16]
     requires { ⌜ length list ≡ 16 ⌝ }
-    ensures { λ r. ⌜ sharesIn r ≡ list ⌝ }
+    ensures { λ r. ⌜ sharesFrom r ≡ list ⌝ }
 {
     [
         list[0].0,
@@ -88,7 +88,7 @@ fn amounts(list: [Percent; 16]) -> [u32; 16]
 
 // The stamp, the slot, the time since tick, how many are queued, who runs.
 pub fn clock_in(clock: &[u32; 5]) -> Clock
-    ensures { λ r. ⌜ r ≡ clockIn (now (clock .entry)) ⌝ }
+    ensures { λ r. ⌜ r ≡ clockFrom (now (clock .entry)) ⌝ }
 {
     let slot = Ticks(clock[1]);
     let since = Cycles(clock[2]);
@@ -103,7 +103,7 @@ pub fn clock_in(clock: &[u32; 5]) -> Clock
 
 // The clock is stored, unless something was refused.
 pub fn keep(clock: &mut [u32; 5], refusal: u8, k: Clock)
-    ensures { λ _. ⌜ Stored (now (clock .entry)) refusal k (now (clock .exit)) ⌝ }
+    ensures { λ _. ⌜ ClockStored (now (clock .entry)) refusal k (now (clock .exit)) ⌝ }
 {
     if refusal != 0 {
         return;

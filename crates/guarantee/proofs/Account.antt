@@ -21,21 +21,21 @@ use Rattle.units.specs.declared.Cycles.{Cycles}
 use Rattle.sheet.specs.Settings.{W, Limits}
 use Rattle.sheet.specs.Sheet.{settingsOf}
 use Rattle.sheet.specs.declared.Settings.{Settings}
-use Rattle.model.specs.State.{absent, thread, queueOf, used, Thread, State}
+use Rattle.model.specs.State.{cycles, absent, thread, queueOf, used, Thread, State}
 use Rattle.model.specs.Policy.{Decided, decide}
 use Rattle.model.specs.Event
 use Rattle.model.specs.Event.{kindOf, stampOf, elapsedAt}
-use Rattle.model.specs.Step.{Saved, Answer, cycles, billed, charge, moveSlot, act, settle, restart, apply, answer}
+use Rattle.model.specs.Step.{Saved, Answer, billed, charge, moveSlot, act, settle, restart, apply, answer}
 use Rattle.model.specs.Run.{Entry, run, freshState, fresh, after}
 use Rattle.model.specs.Doors.{refusedStart}
 use Rattle.model.specs.Facts.{Settled}
 use Rattle.guarantee.specs.Demand3 as demand
 use Rattle.guarantee.specs.Demand3.{Last, chargeOf}
 use Rattle.guarantee.specs.Ledger.{addFirst, ledger, acceptedOf}
-use Rattle.guarantee.specs.Account.{recordFrom, queueBy, queueFrom, stampFrom, elapsedFrom, sinceFrom, ticksFrom, slotFrom, picture, decisionOf, chargeBy, periodsBy, periodsFrom, usedFrom, decisionFrom, decisionsFrom, ageOf, Accounted, Account, Answers}
+use Rattle.guarantee.specs.Account.{recordFrom, queueBy, queueAfter, stampFrom, elapsedFrom, sinceFrom, ticksFrom, slotFrom, picture, decisionOf, chargeBy, periodsBy, periodsFrom, usedFrom, decisionFrom, decisionsFrom, ageOf, Accounted, Account, Answers}
 use Rattle.invariants.specs.Promises.{idleDecision}
-use Rattle.invariants.specs.Charges.{share}
-use Rattle.guarantee.specs.Scheduler.{Moved}
+use Rattle.invariants.specs.Charges.{partOf}
+use Rattle.guarantee.specs.Scheduler.{HistoryMoved}
 use Rattle.guarantee.proofs.Window.{newest-le-sum, window}
 use Rattle.invariants.proofs.Books.{share-outside}
 use Rattle.invariants.proofs.Acts.{act-since}
@@ -65,7 +65,7 @@ lastFrom c es = record { stamp = stampFrom es; mode = decisionFrom c es .mode; p
 record View (c : Settings) (es : List (List ℕ)) (v : Saved) : Type 0 where
   pub good : Good c v
   pub threads : (t : ℕ) → thread (v .state) t ≡ recordFrom es t
-  pub queue : queueOf (v .state) ≡ queueFrom es
+  pub queue : queueOf (v .state) ≡ queueAfter es
   pub window : (p : ℕ) → p < c .count → newestFirst c p v ≡ filled (W c) (periodsFrom c es p)
   pub outside : (p : ℕ) → c .count ≤ p → sum (periodsFrom c es p) ≡ 0
 
@@ -88,10 +88,10 @@ module _ (c : Settings) (es : List (List ℕ)) (v : Saved) (m : View c es v) whe
           let none : used s p ≡ 0 = ap (λ (x : Cycles). x .0) (List·getD-eq-default (s .used) (cycles 0) {n = p} (rw (m .good .lengths .used) (omega arith))) in
           omega (arith, newest-le-sum (W c) (periodsFrom c es p), m .outside p (omega arith))
 
-  queued-is : s .queued ≡ length (queueFrom es)
+  queued-is : s .queued ≡ length (queueAfter es)
   queued-is = sym (length-take-le (s .queued) (s .queue) (rw (m .good .lengths .queue) (k .stored .few))) ∙ ap length (m .queue)
 
-  stored-is : s .queue ≡ queueFrom es ++ replicate (64 - length (queueFrom es)) 0
+  stored-is : s .queue ≡ queueAfter es ++ replicate (64 - length (queueAfter es)) 0
   stored-is =
       zeros-after (s .queue) (s .queued) 64 (m .good .lengths .queue) (k .stored .few) (k .stored .zeros)
       ∙ ap (λ (q : List ℕ). q ++ replicate (64 - length q) 0) (m .queue)
@@ -101,7 +101,7 @@ module _ (c : Settings) (es : List (List ℕ)) (v : Saved) (m : View c es v) whe
 
   decided : decide s ≡ decisionFrom c es
   unfolding decisionOf
-  decided = decide-same s (picture c (recordFrom es) (queueFrom es) (usedFrom c es)) (m .good .settings)
+  decided = decide-same s (picture c (recordFrom es) (queueAfter es) (usedFrom c es)) (m .good .settings)
       (ext-getD (cycles 0) (s .used) (map totals (below 16)) (m .good .lengths .used ∙ sym (table-length totals 16))
       (λ p b. ap cycles (total-is p) ∙ sym (table-at totals 16 p (cycles 0) (rw (m .good .lengths .used) at b))))
       (ext-getD absent (s .threads) (map (recordFrom es) (below 64)) (m .good .lengths .threads ∙ sym (table-length (recordFrom es) 64))
@@ -197,7 +197,7 @@ module _ (c : Settings) (lent : List ℕ) (es : List (List ℕ)) (v : Saved) (m 
     after-is : answer v b .after ≡ v′
     after-is = ap (λ (x : Answer). x .after) (answer-accepted v b ok)
 
-    charged-is : (p : ℕ) → chargeBy (decisionFrom c es) p (elapsedFrom es b) ≡ share (billed (v .state)) p (elapsedAt (v .state) b)
+    charged-is : (p : ℕ) → chargeBy (decisionFrom c es) p (elapsedFrom es b) ≡ partOf (billed (v .state)) p (elapsedAt (v .state) b)
     unfolding chargeBy chargeOf
     charged-is p = charge-is p (lastFrom c es) v entry (m .last)
 
@@ -232,7 +232,7 @@ module _ (c : Settings) (lent : List ℕ) (es : List (List ℕ)) (v : Saved) (m 
         nothing = charged-is p ∙ share-outside (c .count) (billed (v .state)) p (elapsedAt (v .state) b) inside out
 
     view-after : View c (b ∷ es) v′
-    unfolding recordFrom queueFrom
+    unfolding recordFrom queueAfter
     view-after = record {
       good = good-settle c v b (m .view .good) ok;
       threads = λ t. after-record c v (m .view .good) b (accepted v b ok) t ∙ ap (λ (r : Thread). recordAfter b t r) (m .view .threads t);
@@ -275,7 +275,7 @@ module _ (c : Settings) (lent : List ℕ) (es : List (List ℕ)) (v : Saved) (m 
     unfolding ticksFrom
     slot-after = go (eqb (kindOf b) Event.resume) refl (eqb (kindOf b) Event.tick) refl
       where
-        first : Moved (W c) (rows (W c)) (kindFor (kindOf b)) v v′ 0 (share (billed (v .state)) 0 (elapsedAt (v .state) b))
+        first : HistoryMoved (W c) (rows (W c)) (kindFor (kindOf b)) v v′ 0 (partOf (billed (v .state)) 0 (elapsedAt (v .state) b))
         first = good-moved c v b (m .view .good) 0 (omega (arith, limits .count-low))
 
         go : (y : Bool) → eqb (kindOf b) Event.resume ≡ y → (z : Bool) → eqb (kindOf b) Event.tick ≡ z
@@ -313,7 +313,7 @@ module _ (sheet h : List ℕ) (e : refusedStart sheet h ≡ 0) where
   c₀ = settingsOf sheet
 
   view-fresh : View c₀ [] (fresh c₀ h)
-  unfolding recordFrom queueFrom periodsFrom
+  unfolding recordFrom queueAfter periodsFrom
   view-fresh = record {
     good = start-good sheet h e;
     threads = λ t. none-there t (decLt t 64);

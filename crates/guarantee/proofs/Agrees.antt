@@ -17,7 +17,7 @@ use Rattle.model.specs.State.{State}
 use Rattle.model.specs.Facts.{Settled}
 use Rattle.guarantee.specs.Demand3 as demand
 use Rattle.guarantee.specs.Demand3.{Last, lastOf, elapsedSince, chargeOf, chargedTo}
-use Rattle.invariants.specs.Charges.{share}
+use Rattle.invariants.specs.Charges.{partOf}
 use Rattle.guarantee.specs.Scheduler.{charged}
 use Rattle.invariants.proofs.Decision.{decide-picks, decide-idle}
 use Rattle.invariants.proofs.Applied.{apply-left, after-left}
@@ -54,11 +54,11 @@ pub elapsed-is : (l : Last) (v : Saved) (e : Entry) → Agrees l v → elapsedSi
 elapsed-is l v e h = rw (h .stamp)
 
 pub charge-is : (p : ℕ) (l : Last) (v : Saved) (e : Entry) → Agrees l v
-    → chargeOf p l e ≡ share (billed (v .state)) p (elapsedAt (v .state) (e .event))
+    → chargeOf p l e ≡ partOf (billed (v .state)) p (elapsedAt (v .state) (e .event))
 unfolding chargeOf
 charge-is p l v e h = rw (h .runs, ← elapsed-is l v e h) (go (eqb (l .mode) 0))
   where
-    go : (z : Bool) → cond (not z && eqb (l .partition) p) (elapsedSince l e) 0 ≡ share (cond z none (some (l .partition))) p (elapsedSince l e)
+    go : (z : Bool) → cond (not z && eqb (l .partition) p) (elapsedSince l e) 0 ≡ partOf (cond z none (some (l .partition))) p (elapsedSince l e)
     go true = refl
     go false = refl
 

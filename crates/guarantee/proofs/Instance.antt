@@ -24,8 +24,8 @@ use Rattle.model.specs.Step.{Saved, saved, billed, charge, next, moveSlot, act,
 use Rattle.model.specs.Facts.{Settled, Sound, Accepted}
 use Rattle.sheet.proofs.Within.{budgets}
 use Rattle.model.proofs.Bounds.{next-inside}
-use Rattle.invariants.specs.Charges.{share}
-use Rattle.guarantee.specs.Scheduler.{Kind, tick, resume, other, Scheduler, History, Moved, Step, Lawful}
+use Rattle.invariants.specs.Charges.{partOf}
+use Rattle.guarantee.specs.Scheduler.{Kind, tick, resume, other, Scheduler, History, HistoryMoved, Step, Lawful}
 use Rattle.guarantee.specs.Scheduler as abstract
 use Rattle.invariants.specs.Charges as booked
 use Rattle.invariants.proofs.Charges.{row-charge, row-clear}
@@ -101,7 +101,7 @@ module _ (x : Saved) (k : Settled (x .state) (x .history)) where
       let few : used (x .state) p + C c′ / 4 ≤ budget c′ p = leb-true _ _ (sym (has-budget (budget c′ p) (used (x .state) p) (C c′)) ∙ f) in
       omega (arith, k .books .totals p i)
 
-  decided : Sound (settle x .state) (settle x .history) → abstract.Decided model (rows (W c′)) (c′ .count) (need c′) (budget c′) (settle x)
+  decided : Sound (settle x .state) (settle x .history) → abstract.DecidedLaws model (rows (W c′)) (c′ .count) (need c′) (budget c′) (settle x)
   unfolding settle
   decided g = record {
     in-range = inside;
@@ -145,9 +145,9 @@ module _ (v : Saved) (b : List ℕ) (inside : v .state .slot .0 < W (v .state .s
   charged = charge v (stampOf b)
 
   abbrev cost : ℕ → ℕ
-  cost q = share (billed s) q (elapsedAt s b)
+  cost q = partOf (billed s) q (elapsedAt s b)
 
-  charge-row : (q : ℕ) → row-of w (charged .history) q ≡ booked.charge slot (cost q) (row-of w (v .history) q)
+  charge-row : (q : ℕ) → row-of w (charged .history) q ≡ booked.addAt slot (cost q) (row-of w (v .history) q)
   unfolding charge
   charge-row q = row-charge s (billed s) (elapsedAt s b) (v .history) q inside
 
@@ -165,7 +165,7 @@ module _ (v : Saved) (b : List ℕ) (inside : v .state .slot .0 < W (v .state .s
   act-slot = Acts.act-slot (charged .state) b
 
   abbrev MovedTo : ℕ → Saved → Type 0
-  MovedTo q x = Moved w (rows w) (kindFor (kindOf b)) v (settle x) q (cost q)
+  MovedTo q x = HistoryMoved w (rows w) (kindFor (kindOf b)) v (settle x) q (cost q)
 
   pub moved : (q : ℕ) → q < s .settings .count → MovedTo q (apply v b)
   unfolding settle
@@ -203,9 +203,9 @@ module _ (c : Settings) where
   good-row v g q i = row-length (W c) (v .history) q (c .count) i (good-room v g)
 
   pub good-moved : (v : Saved) (b : List ℕ) → Good c v → (q : ℕ) → q < c .count
-      → Moved (W c) (rows (W c)) (kindFor (kindOf b)) v (settle (apply v b)) q (share (billed (v .state)) q (elapsedAt (v .state) b))
+      → HistoryMoved (W c) (rows (W c)) (kindFor (kindOf b)) v (settle (apply v b)) q (partOf (billed (v .state)) q (elapsedAt (v .state) b))
   good-moved v b g =
-      subst (λ (d : Settings). (q : ℕ) → q < d .count → Moved (W d) (rows (W d)) (kindFor (kindOf b)) v (settle (apply v b)) q (cost v b inside q)) (g .settings) (moved v b inside)
+      subst (λ (d : Settings). (q : ℕ) → q < d .count → HistoryMoved (W d) (rows (W d)) (kindFor (kindOf b)) v (settle (apply v b)) q (cost v b inside q)) (g .settings) (moved v b inside)
     where
       inside : v .state .slot .0 < W (v .state .settings)
       inside = g .fit .sound .settled .books .inside
@@ -220,7 +220,7 @@ module _ (c : Settings) where
         was-sound = g;
         sound = good-settle c v b g e;
         decided =
-            subst (λ (d : Settings). abstract.Decided model (rows (W d)) (d .count) (need d) (budget d) (settle x))
+            subst (λ (d : Settings). abstract.DecidedLaws model (rows (W d)) (d .count) (need d) (budget d) (settle x))
             (l .settings ∙ g .settings)
             (decided x (l .settled) (after-sound v b (g .lengths) a));
         moved = good-moved v b g;

@@ -11,11 +11,11 @@ use Rattle.units.specs.Units.{elapsedOf}
 use Rattle.sheet.specs.Settings.{W}
 use Rattle.sheet.specs.Sheet.{settingsOf}
 use Rattle.sheet.specs.declared.Settings.{Settings}
-use Rattle.model.specs.State.{absent, thread, queueOf, idle, used, Thread, State}
+use Rattle.model.specs.State.{cycles, absent, thread, queueOf, idle, used, Thread, State}
 use Rattle.model.specs.Policy.{Decided, idleMode, decide}
 use Rattle.model.specs.Event
 use Rattle.model.specs.Event.{kindOf, threadOf, partitionOf, priorityOf, maskOf, stampOf}
-use Rattle.model.specs.Step.{Saved, cycles, leaves, withReady, withPriority, created}
+use Rattle.model.specs.Step.{Saved, leaves, withReady, withPriority, created}
 use Rattle.model.specs.Run.{run, fresh, after}
 use Rattle.model.specs.Doors.{refusedStart}
 use Rattle.guarantee.specs.Demand3.{accepted}
@@ -45,9 +45,9 @@ queueBy e q =
     (cond (eqb (kindOf e) Event.block || eqb (kindOf e) Event.end) (leaves q (threadOf e))
     q)
 
-unfoldable pub queueFrom : List (List ℕ) → List ℕ
-queueFrom [] = []
-queueFrom (e ∷ es) = queueBy e (queueFrom es)
+unfoldable pub queueAfter : List (List ℕ) → List ℕ
+queueAfter [] = []
+queueAfter (e ∷ es) = queueBy e (queueAfter es)
 
 -- ---- the clock
 
@@ -96,7 +96,7 @@ inWindow c periods = sum (take (W c) periods)
 
 -- the decision after the events es, where `periods p` is what they charged to p in each tick period
 unfoldable pub decisionOf : Settings → List (List ℕ) → (ℕ → List ℕ) → Decided
-decisionOf c es periods = decide (picture c (recordFrom es) (queueFrom es) (λ p. inWindow c (periods p)))
+decisionOf c es periods = decide (picture c (recordFrom es) (queueAfter es) (λ p. inWindow c (periods p)))
 
 -- x, if the decision d chose a thread of p; "idle time goes to no account"
 unfoldable pub chargeBy : Decided → ℕ → ℕ → ℕ
@@ -137,7 +137,7 @@ ageOf c es k = (slotFrom c es + W c - k) % W c
 pub record Accounted (c : Settings) (lent : List ℕ) (es : List (List ℕ)) (v : Saved) : Type 0 where
   pub settings : v .state .settings ≡ c
   pub threads : (t : ℕ) → thread (v .state) t ≡ recordFrom es t
-  pub queue : queueOf (v .state) ≡ queueFrom es
+  pub queue : queueOf (v .state) ≡ queueAfter es
   pub stamp : v .state .stamp ≡ stampFrom es
   pub since : v .state .since .0 ≡ sinceFrom es
   pub slot : v .state .slot .0 ≡ slotFrom c es

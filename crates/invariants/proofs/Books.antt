@@ -1,4 +1,4 @@
--- The books after a charge, and after a tick's move to the next slot.
+-- The books after a addAt, and after a tick's move to the next slot.
 use mathlib.Core.Path.{_≡_, refl}
 use Prim.Native.Nat.{ℕ, _+_, _*_, _≤_, _<_}
 use mathlib.Core.Bool.{Bool, true, false, cond}
@@ -18,15 +18,15 @@ use Rattle.sheet.specs.declared.Settings.{Settings}
 use Rattle.model.specs.State.{used, State}
 use Rattle.model.specs.Step.{addUsed, addHistory, clearHistory, lowerUsed}
 use Rattle.model.specs.Facts.{Books, Rest, usedAt, charges}
-use Rattle.invariants.specs.Charges.{share, charge}
+use Rattle.invariants.specs.Charges.{partOf, addAt}
 use Rattle.invariants.proofs.Charges.{row-charge, row-clear, used-charge, lower-past, lower-at}
 
 -- what is charged to one partition is charged to all together, and nothing is charged to one past the last
-share-total : (n : ℕ) (o : Option ℕ) (x : ℕ) → ((r : ℕ) → o ≡ some r → r < n) → total n (λ q. share o q x) ≤ x
+share-total : (n : ℕ) (o : Option ℕ) (x : ℕ) → ((r : ℕ) → o ≡ some r → r < n) → total n (λ q. partOf o q x) ≤ x
 share-total n none x h = omega (arith, total-zero n)
 share-total n (some r) x h = omega (arith, only-total n r x (h r refl))
 
-pub share-outside : (n : ℕ) (o : Option ℕ) (p x : ℕ) → ((r : ℕ) → o ≡ some r → r < n) → n ≤ p → share o p x ≡ 0
+pub share-outside : (n : ℕ) (o : Option ℕ) (p x : ℕ) → ((r : ℕ) → o ≡ some r → r < n) → n ≤ p → partOf o p x ≡ 0
 share-outside n none p x f out = refl
 share-outside n (some r) p x f out = let a : r < n = f r refl in rw (ne-eqb r p (omega arith))
 
@@ -37,44 +37,44 @@ module _ (s : State) (h : List ℕ) (lim : Limits (s .settings)) (sixteen : leng
   row-len : (p : ℕ) → p < c .count → length (row-of (W c) h p) ≡ W c
   row-len p b = row-length (W c) h p (c .count) b fits
 
-  -- ---- a charge of e to the partition o
+  -- ---- a addAt of e to the partition o
   module _ (o : Option ℕ) (e : ℕ) (r : (q : ℕ) → o ≡ some q → q < c .count) (b : Books c (s .used) (s .slot .0) (s .since .0) h) where
     abbrev h′ : List ℕ
     h′ = addHistory s o e h
 
     -- the number of partition p for slot k
-    charges-charge : (k p : ℕ) → k < W c → p < c .count → charges c h′ k p ≡ charges c h k p + cond (eqb k (s .slot .0)) (share o p e) 0
+    charges-charge : (k p : ℕ) → k < W c → p < c .count → charges c h′ k p ≡ charges c h k p + cond (eqb k (s .slot .0)) (partOf o p e) 0
     charges-charge k p i d =
         rw (← row-get (W c) h′ p k i, row-charge s o e h p (b .inside), ← row-get (W c) h p k i) (go (eqb k (s .slot .0)) refl)
       where
         row : List ℕ
         row = row-of (W c) h p
 
-        go : (z : Bool) → eqb k (s .slot .0) ≡ z → getD (charge (s .slot .0) (share o p e) row) k 0 ≡ getD row k 0 + cond z (share o p e) 0
+        go : (z : Bool) → eqb k (s .slot .0) ≡ z → getD (addAt (s .slot .0) (partOf o p e) row) k 0 ≡ getD row k 0 + cond z (partOf o p e) 0
         go true q =
             let w : k ≡ s .slot .0 = eqb-true _ _ q in
-            rw (w, getD-set-same row (s .slot .0) (getD row (s .slot .0) 0 + share o p e) 0 (rw (row-len p d) (b .inside)))
-        go false q = rw (getD-set-other row (s .slot .0) k (getD row (s .slot .0) 0 + share o p e) 0 (eqb-false _ _ q)) (omega arith)
+            rw (w, getD-set-same row (s .slot .0) (getD row (s .slot .0) 0 + partOf o p e) 0 (rw (row-len p d) (b .inside)))
+        go false q = rw (getD-set-other row (s .slot .0) k (getD row (s .slot .0) 0 + partOf o p e) 0 (eqb-false _ _ q)) (omega arith)
 
     -- over all partitions
     slot-charge : (k : ℕ) → k < W c → total (c .count) (charges c h′ k) ≤ total (c .count) (charges c h k) + cond (eqb k (s .slot .0)) e 0
     slot-charge k i = go (eqb k (s .slot .0)) (λ p d. charges-charge k p i d)
       where
-        go : (z : Bool) → ((p : ℕ) → p < c .count → charges c h′ k p ≡ charges c h k p + cond z (share o p e) 0)
+        go : (z : Bool) → ((p : ℕ) → p < c .count → charges c h′ k p ≡ charges c h k p + cond z (partOf o p e) 0)
             → total (c .count) (charges c h′ k) ≤ total (c .count) (charges c h k) + cond z e 0
         go true f =
-            omega (arith, total-ext (c .count) _ _ f, total-add (c .count) (charges c h k) (λ p. share o p e), share-total (c .count) o e r)
+            omega (arith, total-ext (c .count) _ _ f, total-add (c .count) (charges c h k) (λ p. partOf o p e), share-total (c .count) o e r)
         go false f = omega (arith, total-mono (c .count) (charges c h′ k) (charges c h k) (λ p d. omega (arith, f p d)))
 
     slot-current : total (c .count) (charges c h′ (s .slot .0)) ≤ total (c .count) (charges c h (s .slot .0)) + e
     slot-current = rw (eq-eqb (s .slot .0) (s .slot .0) refl) at (slot-charge (s .slot .0) (b .inside))
 
-    sum-charge : (p : ℕ) → p < c .count → sum (row-of (W c) h′ p) ≡ sum (row-of (W c) h p) + share o p e
+    sum-charge : (p : ℕ) → p < c .count → sum (row-of (W c) h′ p) ≡ sum (row-of (W c) h p) + partOf o p e
     sum-charge p d =
         rw (row-charge s o e h p (b .inside))
-        (omega (arith, sum-set (row-of (W c) h p) (s .slot .0) (getD (row-of (W c) h p) (s .slot .0) 0 + share o p e) (rw (row-len p d) (b .inside))))
+        (omega (arith, sum-set (row-of (W c) h p) (s .slot .0) (getD (row-of (W c) h p) (s .slot .0) 0 + partOf o p e) (rw (row-len p d) (b .inside))))
 
-    used-now : (p : ℕ) → usedAt (addUsed s o e) p ≡ used s p + share o p e
+    used-now : (p : ℕ) → usedAt (addUsed s o e) p ≡ used s p + partOf o p e
     used-now p = used-charge s o e p (λ q w. omega (arith, r q w, lim .count-high))
 
     pub books-charge : s .since .0 + e ≤ 2 * C c → Books c (addUsed s o e) (s .slot .0) (s .since .0 + e) h′

@@ -1,4 +1,4 @@
--- What a charge and a cleared slot leave of the rows and of the totals.
+-- What a addAt and a cleared slot leave of the rows and of the totals.
 use mathlib.Core.Logic.{_≢_}
 use mathlib.Core.Path.{_≡_, refl, sym, ap, _∙_}
 use Prim.Native.Nat.{ℕ, zero, suc, _+_, _-_, _*_, _≤_, _<_}
@@ -18,11 +18,11 @@ use Rattle.sheet.specs.Settings.{W}
 use Rattle.model.specs.State.{used, State}
 use Rattle.model.specs.Step.{addUsed, addHistory, clearHistory, lowerUsed}
 use Rattle.model.specs.Facts.{usedAt}
-use Rattle.invariants.specs.Charges.{share, charge}
+use Rattle.invariants.specs.Charges.{partOf, addAt}
 
 -- ---- the history after e is charged to the partition o in the current slot
 
-charge-none : (slot : ℕ) (l : List ℕ) → charge slot 0 l ≡ l
+charge-none : (slot : ℕ) (l : List ℕ) → addAt slot 0 l ≡ l
 charge-none slot l = let z : getD l slot 0 + 0 ≡ getD l slot 0 = omega arith in rw z (set-getD l slot 0)
 
 module _ (s : State) where
@@ -44,12 +44,12 @@ module _ (s : State) where
   history-past n (some p) e h a r = drop-set-lt (n * w) h (p * w + slot) _ (in-rows w n p slot (r p refl) a)
 
   pub row-charge : (o : Option ℕ) (e : ℕ) (h : List ℕ) (q : ℕ) → slot < w
-      → row-of w (addHistory s o e h) q ≡ charge slot (share o q e) (row-of w h q)
+      → row-of w (addHistory s o e h) q ≡ addAt slot (partOf o q e) (row-of w h q)
   unfolding addHistory
   row-charge none e h q b = sym (charge-none slot (row-of w h q))
   row-charge (some r) e h q b = go (eqb r q) refl
     where
-      go : (z : Bool) → eqb r q ≡ z → row-of w (charge (r * w + slot) e h) q ≡ charge slot (cond z e 0) (row-of w h q)
+      go : (z : Bool) → eqb r q ≡ z → row-of w (addAt (r * w + slot) e h) q ≡ addAt slot (cond z e 0) (row-of w h q)
       go true i =
           let same : r ≡ q = eqb-true r q i in
           rw (same, row-set w h q slot (getD h (q * w + slot) 0 + e) b, row-get w h q slot b)
@@ -90,7 +90,7 @@ used-length s none e = refl
 used-length s (some p) e = length-set (s .used) p _
 
 pub used-charge : (s : State) (o : Option ℕ) (e p : ℕ) → ((r : ℕ) → o ≡ some r → r < length (s .used))
-    → usedAt (addUsed s o e) p ≡ used s p + share o p e
+    → usedAt (addUsed s o e) p ≡ used s p + partOf o p e
 unfolding addUsed
 used-charge s none e p h = omega arith
 used-charge s (some r) e p h = go (eqb r p) refl

@@ -17,7 +17,7 @@ use Rattle.model.specs.Facts.{Settled}
 use Rattle.model.proofs.Meaning.{sound-of}
 use Rattle.model.proofs.Order.{weak}
 use Rattle.model.proofs.Winner.{winner-none}
-use Rattle.invariants.specs.Promises.{Idles, Orders, FirstOf, mayRun, Choice, Chooses, ChoosesOne, BudgetFirst}
+use Rattle.invariants.specs.Promises.{Idles, Orders, FirstOf, runsFor, Choice, Chooses, ChoosesOne, BudgetFirst}
 use Rattle.invariants.proofs.Winner.{winner-has}
 use Rattle.invariants.proofs.Chosen.{first-member}
 use Rattle.invariants.proofs.Decision.{allowed-competes, decide-picks, idle-exactly}
@@ -72,17 +72,17 @@ module _ (test : ℕ → Bool) (t u : ℕ) (t-holds : test t ≡ true) (u-holds 
 choice-one : (s : State) (p t u : ℕ) → Choice s p t → Choice s p u → t ≡ u
 unfolding Free
 choice-one s p t u a b =
-    first-one (λ v. mayRun s p v && eqb (thread s v .priority) (thread s t .priority)) t u (a .place .holds) (b′ .holds) (a .place .later)
+    first-one (λ v. runsFor s p v && eqb (thread s v .priority) (thread s t .priority)) t u (a .place .holds) (b′ .holds) (a .place .later)
     (b′ .later)
     (a .place .earlier) (a .place .not-earlier) (b′ .earlier) (b′ .not-earlier) (sym (a .place .split) ∙ b′ .split)
   where
     le : (t u : ℕ) → Choice s p t → Choice s p u → thread s t .priority ≤ thread s u .priority
-    le t u a b = b .top t (first-member _ (queueOf s) t (a .place)) (both (mayRun s p t) _ (a .place .holds) .0)
+    le t u a b = b .top t (first-member _ (queueOf s) t (a .place)) (both (runsFor s p t) _ (a .place .holds) .0)
 
-    b′ : FirstOf (λ v. mayRun s p v && eqb (thread s v .priority) (thread s t .priority)) (queueOf s) u
+    b′ : FirstOf (λ v. runsFor s p v && eqb (thread s v .priority) (thread s t .priority)) (queueOf s) u
     b′ =
         let same : thread s u .priority ≡ thread s t .priority = omega (arith, le t u a b, le u t b a) in
-        subst (λ (n : ℕ). FirstOf (λ v. mayRun s p v && eqb (thread s v .priority) n) (queueOf s) u) same (b .place)
+        subst (λ (n : ℕ). FirstOf (λ v. runsFor s p v && eqb (thread s v .priority) n) (queueOf s) u) same (b .place)
 
 pub chooses-one : ChoosesOne
 chooses-one s d e a b = λ i. record { mode = modes i; partition = parts i; thread = threads i }

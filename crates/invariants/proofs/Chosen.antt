@@ -10,7 +10,7 @@ use Rattle.lists.proofs.Tests.{clash, both, and}
 use Rattle.lists.proofs.All.{member-keep, member-append, any-member, keep-both, maximum-high, maximum-found}
 use Rattle.model.specs.State.{thread, queueOf, idle, State}
 use Rattle.model.specs.Policy.{candidates, competing, topPriority, chosen}
-use Rattle.invariants.specs.Promises.{Allowed, FirstOf, mayRun, Choice}
+use Rattle.invariants.specs.Promises.{Allowed, FirstOf, runsFor, Choice}
 
 -- ---- the first element for which a test holds
 
@@ -44,9 +44,9 @@ first-member f l t r = rw (r .split, member-append t (r .earlier) (t ∷ r .late
 -- ---- the threads that compete for a partition
 
 module _ (s : State) (p : ℕ) where
-  candidate : (t : ℕ) → member t (candidates s p) ≡ (member t (queueOf s) && mayRun s p t)
+  candidate : (t : ℕ) → member t (candidates s p) ≡ (member t (queueOf s) && runsFor s p t)
   unfolding candidates
-  candidate t = member-keep (mayRun s p) (queueOf s) t
+  candidate t = member-keep (runsFor s p) (queueOf s) t
 
   -- a queued thread that this core may run makes its partition compete
   pub competes : (t : ℕ) → Allowed s t → thread s t .partition ≡ p → competing s p ≡ true
@@ -54,29 +54,29 @@ module _ (s : State) (p : ℕ) where
   competes t a e = any-member (λ u. true) (candidates s p) t (candidate t ∙ and (a .queued) (and (eq-eqb _ _ e) (a .allowed))) refl
 
   abbrev top : ℕ → Bool
-  top t = mayRun s p t && eqb (thread s t .priority) (topPriority s p)
+  top t = runsFor s p t && eqb (thread s t .priority) (topPriority s p)
 
   module _ (c : competing s p ≡ true) where
     some-top : any top (queueOf s) ≡ true
     unfolding competing topPriority
     some-top =
         let (u, m, e) = maximum-found (λ t. thread s t .priority) (candidates s p) c in
-        let (q, r) = both (member u (queueOf s)) (mayRun s p u) (sym (candidate u) ∙ m) in
+        let (q, r) = both (member u (queueOf s)) (runsFor s p u) (sym (candidate u) ∙ m) in
         any-member top (queueOf s) u q (and r (eq-eqb _ _ e))
 
     first-top : FirstOf top (queueOf s) (chosen s p)
     unfolding chosen candidates
     first-top =
-        rw (keep-both (mayRun s p) (λ t. eqb (thread s t .priority) (topPriority s p)) top (λ t. refl) (queueOf s))
+        rw (keep-both (runsFor s p) (λ t. eqb (thread s t .priority) (topPriority s p)) top (λ t. refl) (queueOf s))
         (first-is top (queueOf s) idle some-top)
 
-    is-top : (mayRun s p (chosen s p) ≡ true) × (topPriority s p ≡ thread s (chosen s p) .priority)
-    is-top = let (r, e) = both (mayRun s p (chosen s p)) _ (first-top .holds) in (r, sym (eqb-true _ _ e))
+    is-top : (runsFor s p (chosen s p) ≡ true) × (topPriority s p ≡ thread s (chosen s p) .priority)
+    is-top = let (r, e) = both (runsFor s p (chosen s p)) _ (first-top .holds) in (r, sym (eqb-true _ _ e))
 
     pub chosen-is : Choice s p (chosen s p)
     unfolding topPriority
     chosen-is = record {
-      place = subst (λ (n : ℕ). FirstOf (λ u. mayRun s p u && eqb (thread s u .priority) n) (queueOf s) (chosen s p)) (is-top .1) first-top;
+      place = subst (λ (n : ℕ). FirstOf (λ u. runsFor s p u && eqb (thread s u .priority) n) (queueOf s) (chosen s p)) (is-top .1) first-top;
       top = λ u q r. subst (λ (n : ℕ). thread s u .priority ≤ n) (is-top .1)
           (maximum-high (λ t. thread s t .priority) (candidates s p) u (candidate u ∙ and q r));
     }

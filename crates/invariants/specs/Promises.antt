@@ -8,7 +8,7 @@ use lib.ListN.{length, drop}
 use lib.Dec.{eqb}
 use Rattle.lists.specs.Lists.{member}
 use Rattle.sheet.specs.Sheet.{settingsOf}
-use Rattle.model.specs.State.{thread, queueOf, allows, idle, used, wanted, State}
+use Rattle.model.specs.State.{thread, queueOf, allows, idle, used, wanted, State, mayRun}
 use Rattle.model.specs.Typed.{Words, Bytes, Typed}
 use Rattle.model.specs.Policy.{Decided, competing, hasBudget, idleMode, mode, before, decide}
 use Rattle.model.specs.Choices.{StrictWeak, Won}
@@ -88,14 +88,14 @@ pub record FirstOf (test : ℕ → Bool) (l : List ℕ) (t : ℕ) : Type 0 where
   pub holds : test t ≡ true
   pub not-earlier : (u : ℕ) → member u earlier ≡ true → test u ≡ false
 
--- thread t is of partition p, and this core may run it
-abbrev pub mayRun : State → ℕ → ℕ → Bool
-mayRun s p t = eqb (thread s t .partition) p && allows (thread s t .mask) (s .settings .core)
+-- thread t is one of partition p's that this core may run
+abbrev pub runsFor : State → ℕ → ℕ → Bool
+runsFor s p t = mayRun (thread s t .partition) (thread s t .mask) p (s .settings .core)
 
 -- "the first in the line with the top priority among threads this core may run"
 pub record Choice (s : State) (p t : ℕ) : Type 0 where
-  pub place : FirstOf (λ u. mayRun s p u && eqb (thread s u .priority) (thread s t .priority)) (queueOf s) t
-  pub top : (u : ℕ) → member u (queueOf s) ≡ true → mayRun s p u ≡ true → thread s u .priority ≤ thread s t .priority
+  pub place : FirstOf (λ u. runsFor s p u && eqb (thread s u .priority) (thread s t .priority)) (queueOf s) t
+  pub top : (u : ℕ) → member u (queueOf s) ≡ true → runsFor s p u ≡ true → thread s u .priority ≤ thread s t .priority
 
 -- what a decision is that chooses a thread
 pub record Busy (s : State) (d : Decided) : Type 0 where

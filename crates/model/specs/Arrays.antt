@@ -6,17 +6,13 @@ use mathlib.Core.List.{List, map}
 use lib.ListN.{length, getD}
 use lib.Dec.{eqb, leb}
 use Rattle.lists.specs.Lists.{all, below}
-use Rattle.units.specs.declared.Cycles.{Cycles}
 use Rattle.sheet.specs.declared.Settings.{Settings}
-use Rattle.model.specs.State.{State, Thread}
+use Rattle.model.specs.State.{cycles, State, Thread}
 use Rattle.model.specs.declared.Clock.{Clock}
 
 -- a flag is a byte: 1 where it is on, 0 where it is off
 abbrev pub flag : Bool → ℕ
 flag b = cond b 1 0
-
-abbrev pub cycles : ℕ → Cycles
-cycles n = record { 0 = n }
 
 -- a thread's record, of which each of the five arrays has one number
 abbrev pub threadIn : List ℕ → List ℕ → List ℕ → List ℕ → List ℕ → ℕ → Thread

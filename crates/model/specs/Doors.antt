@@ -8,7 +8,7 @@ use lib.Dec.{leb, ltb, eqb}
 use Rattle.sheet.specs.Sheet.{settingsOf, refusedSheet}
 use Rattle.model.specs.State.{wanted}
 use Rattle.model.specs.Policy.{remaining, decide}
-use Rattle.model.specs.Step.{Saved, Answer, nothing, answer}
+use Rattle.model.specs.Step.{Saved, Answer, refusedBy, answer}
 use Rattle.model.specs.Run.{freshState, run, after}
 use Rattle.model.specs.Answers.{Line, refusalLine, decisionLine, Remainder}
 use Rattle.model.specs.Lent.{Lent, stateIn, savedIn, refusedIn}
@@ -26,8 +26,7 @@ refusedStart sheet h =
 
 unfoldable pub answerTo : Lent → List ℕ → Answer
 answerTo x b =
-    cond (eqb (refusedIn x) 0) (answer (savedIn x) b)
-    (record { refusal = refusedIn x; decision = nothing; after = savedIn x })
+    cond (eqb (refusedIn x) 0) (answer (savedIn x) b) (refusedBy (refusedIn x) (savedIn x))
 
 -- ---- run: many events, each record with a line
 

@@ -47,22 +47,22 @@ lent a b u k e r p n m q h =
 
 -- ---- the state that they stand for
 
-abbrev pub sharesIn : List ℕ → List Percent
-sharesIn l = map (λ p. record { 0 = getD l p 0 }) (below 16)
+abbrev pub sharesFrom : List ℕ → List Percent
+sharesFrom l = map (λ p. record { 0 = getD l p 0 }) (below 16)
 
-abbrev pub settingsIn : List ℕ → List ℕ → Settings
-settingsIn a b =
+abbrev pub settingsFrom : List ℕ → List ℕ → Settings
+settingsFrom a b =
     record {
       window = record { 0 = getD a 0 0 };
       tick = record { 0 = getD a 1 0 };
       policy = getD a 2 0;
       core = getD a 3 0;
       count = getD a 4 0;
-      shares = sharesIn b;
+      shares = sharesFrom b;
     }
 
-abbrev pub clockIn : List ℕ → Clock
-clockIn k =
+abbrev pub clockFrom : List ℕ → Clock
+clockFrom k =
     record {
       stamp = getD k 0 0;
       slot = record { 0 = getD k 1 0 };
@@ -71,15 +71,15 @@ clockIn k =
       running = getD k 4 0;
     }
 
-abbrev pub settingsOf : Lent → Settings
-settingsOf x = settingsIn (x .settings) (x .shares)
+abbrev pub lentSettings : Lent → Settings
+lentSettings x = settingsFrom (x .settings) (x .shares)
 
-abbrev pub clockOf : Lent → Clock
-clockOf x = clockIn (x .clock)
+abbrev pub lentClock : Lent → Clock
+lentClock x = clockFrom (x .clock)
 
 abbrev pub stateIn : Lent → State
 stateIn x =
-    stateOf (settingsOf x) (x .used) (clockOf x) (x .exists) (x .ready) (x .partitions) (x .priorities) (x .masks) (x .queue)
+    stateOf (lentSettings x) (x .used) (lentClock x) (x .exists) (x .ready) (x .partitions) (x .priorities) (x .masks) (x .queue)
 
 abbrev pub savedIn : Lent → Saved
 savedIn x = saved (stateIn x) (x .history)
@@ -97,4 +97,4 @@ refusedArrays c u k e r p n m q h =
 
 abbrev pub refusedIn : Lent → ℕ
 refusedIn x =
-    refusedArrays (settingsOf x) (x .used) (clockOf x) (x .exists) (x .ready) (x .partitions) (x .priorities) (x .masks) (x .queue) (x .history)
+    refusedArrays (lentSettings x) (x .used) (lentClock x) (x .exists) (x .ready) (x .partitions) (x .priorities) (x .masks) (x .queue) (x .history)

@@ -1,7 +1,7 @@
 -- The scheduler's state on one core, beside the lent history, as document 01 speaks of it, free of how it is stored (Arrays says what stands for
 -- it); and its views: threads, the ready queue, the rows of the history.
 use Prim.Native.Nat.{ℕ, _+_, _*_, _/_, _%_, _^_}
-use mathlib.Core.Bool.{Bool, false}
+use mathlib.Core.Bool.{Bool, false, _&&_}
 use mathlib.Core.List.{List}
 use lib.ListN.{getD, take, drop}
 use lib.Dec.{eqb}
@@ -44,9 +44,16 @@ thread s t = getD (s .threads) t absent
 abbrev pub queueOf : State → List ℕ
 queueOf s = take (s .queued) (s .queue)
 
+abbrev pub cycles : ℕ → Cycles
+cycles n = record { 0 = n }
+
 -- the run mask has the bit of core m
 unfoldable pub allows : ℕ → ℕ → Bool
 allows mask m = eqb (mask / 2 ^ m % 2) 1
+
+-- a thread of this partition and this mask is one of p's that core m may run
+abbrev pub mayRun : ℕ → ℕ → ℕ → ℕ → Bool
+mayRun partition mask p m = eqb partition p && allows mask m
 
 -- "Idle answers partition 0, thread 255"
 abbrev pub idle : ℕ

@@ -8,7 +8,7 @@ use lib.Dec.{eqb}
 use Rattle.lists.specs.Lists.{keep}
 use Rattle.units.specs.Units.{elapsedOf}
 use Rattle.sheet.specs.Settings.{W}
-use Rattle.model.specs.State.{absent, thread, queueOf, idle, used, place, wanted, Thread, State}
+use Rattle.model.specs.State.{cycles, absent, thread, queueOf, idle, used, place, wanted, Thread, State}
 use Rattle.model.specs.Policy.{Decided, decide}
 use Rattle.model.specs.Event.{kindOf, threadOf, partitionOf, priorityOf, maskOf, stampOf, tick, create, ready, block, setPriority, end, resume, refused}
 use Rattle.units.specs.declared.Cycles.{Cycles}
@@ -20,9 +20,6 @@ pub record Saved : Type 0 where
 
 abbrev pub saved : State → List ℕ → Saved
 saved s h = record { state = s; history = h }
-
-abbrev pub cycles : ℕ → Cycles
-cycles n = record { 0 = n }
 
 -- the state with other clock fields
 abbrev pub withClock : State → ℕ → ℕ → ℕ → State
@@ -208,8 +205,12 @@ abbrev pub nothing : Decided
 nothing = record { mode = 0; partition = 0; thread = 0 }
 
 -- "A refusal returns the given state and zeros for the rest, and lent memory is as before"
+abbrev pub refusedBy : ℕ → Saved → Answer
+refusedBy n v = record { refusal = n; decision = nothing; after = v }
+
+-- where n is the number by which the event b is refused on v, or 0
+abbrev pub answerBy : ℕ → Saved → List ℕ → Answer
+answerBy n v b = cond (eqb n 0) (record { refusal = 0; decision = decide (apply v b .state); after = settle (apply v b) }) (refusedBy n v)
+
 unfoldable pub answer : Saved → List ℕ → Answer
-answer v b =
-    cond (eqb (refused (v .state) (v .history) b) 0)
-    (record { refusal = 0; decision = decide (apply v b .state); after = settle (apply v b) })
-    (record { refusal = refused (v .state) (v .history) b; decision = nothing; after = v })
+answer v b = answerBy (refused (v .state) (v .history) b) v b

@@ -38,7 +38,7 @@ use Rattle.event.specs.Kinds.{kindNumber}
 use Rattle.event.specs.Bytes.{bytesOf}
 use Rattle.event.specs.declared.Event.{Event}
 use Rattle.event.proofs.EventLaws.{known-form}
-use Rattle.threads.specs.Entries.{Stored, queueFrom}
+use Rattle.threads.specs.Entries.{QueueStored, queueFrom}
 use Rattle.threads.proofs.EntriesLaws.{queue-eq}
 use Rattle.accounts.specs.Charged.{payerOf, Pays, Payable, Charged}
 use Rattle.accounts.proofs.ChargingLaws.{used-at, map-length}
@@ -162,7 +162,7 @@ module _ (c : Settings) (u : List ℕ) (k : Clock) (e r p n m q h budgets tops f
     -- ---- a tick
 
     movable : (u′ : List ℕ) (k′ : Clock) (h′ : List ℕ) → Charged c u k p h u′ k′ h′ (x .stamp)
-        → (length u′ ≡ 16) × (k′ .slot .0 < W c) × Slots.Held u′ h′ (W c) (c .count) (nextOf (k′ .slot .0) (W c))
+        → (length u′ ≡ 16) × (k′ .slot .0 < W c) × Slots.Covered u′ h′ (W c) (c .count) (nextOf (k′ .slot .0) (W c))
     movable u′ k′ h′ d =
         let y : Saved = saved (stateOf c u′ k′ e r p n m q) h′ in
         let same : y ≡ charge v (x .stamp) = d e r n m q in
@@ -230,7 +230,7 @@ module _ (c : Settings) (u : List ℕ) (k : Clock) (e r p n m q h budgets tops f
         let most : length (queueOf s ++ (threadOf b ∷ [])) ≤ 64 = subst (λ (i : State). i .queued ≤ 64) (act-ready s b is) (z .stored .few) in
         omega (arith, length-append (queueOf s) (threadOf b ∷ []), most, length-take-le (k .queued) q (omega (arith, settled .stored .few, g .full)))
 
-    stored : Stored q (k .queued)
+    stored : QueueStored q (k .queued)
     unfolding queueFrom
     stored =
         queue-eq (zeros-after q (k .queued) 64 (g .full) (settled .stored .few) (settled .stored .zeros))

@@ -28,11 +28,11 @@ use Rattle.invariants.proofs.Answered.{Good, good-answer}
 use Rattle.accounts.proofs.ChargingLaws.{map-length}
 use Rattle.event.specs.Bytes.{bytesOf}
 use Rattle.event.specs.declared.Event.{Event}
-use Rattle.decision.specs.Upkeep.{Held, Chooses}
+use Rattle.decision.specs.Upkeep.{Held, DecidesKept}
 use Rattle.decision.specs.declared.kept.Sets.{Sets}
 use Rattle.scheduler.specs.Effects.{Ready, Applied}
 use Rattle.scheduler.proofs.EffectsLaws.{left}
-use Rattle.scheduler.specs.Stepping.{Whole, Answered, Same}
+use Rattle.scheduler.specs.Stepping.{Whole, StepAnswered, Same}
 
 -- ---- the answers
 
@@ -98,12 +98,12 @@ module _ (c : Settings) (u : List ℕ) (k : Clock) (e r p n m q h budgets tops f
 
   -- ---- a refusal
 
-  no : (b : List ℕ) (x : Refusal) → refusedEvent s b ≡ numberOf x → Answered c v b (verdict.Refused x) u k e r p n m q h budgets tops firsts sets
+  no : (b : List ℕ) (x : Refusal) → refusedEvent s b ≡ numberOf x → StepAnswered c v b (verdict.Refused x) u k e r p n m q h budgets tops firsts sets
   no b x f =
       let z = refused-by-event s h b (g .taken) ∙ f in
       record { line = line-no s h b x z; after = after-no s h b x z; whole = g }
 
-  pub no-event : (b : List ℕ) (o : Outcome) (x : Refusal) → o ≡ Refused x → outcomeOf o ≡ refusedEvent s b → Answered c v b (verdict.Refused x) u k e r p n m q h budgets tops firsts sets
+  pub no-event : (b : List ℕ) (o : Outcome) (x : Refusal) → o ≡ Refused x → outcomeOf o ≡ refusedEvent s b → StepAnswered c v b (verdict.Refused x) u k e r p n m q h budgets tops firsts sets
   no-event b o x f i = no b x (sym i ∙ ap outcomeOf f)
 
   pub same : (k′ : Clock) → k′ ≡ k → Same u k e r p n m q h u k′ e r p n m q h
@@ -130,8 +130,8 @@ module _ (c : Settings) (u : List ℕ) (k : Clock) (e r p n m q h budgets tops f
     }
 
     pub decided : (u′ : List ℕ) (k′ : Clock) (e′ r′ p′ n′ m′ q′ h′ tops′ firsts′ : List ℕ) (sets′ : Sets) (d : Decision)
-        → Applied c v u′ k′ e′ r′ p′ n′ m′ q′ h′ budgets tops′ firsts′ sets′ (bytesOf x) → Chooses c u′ budgets tops′ firsts′ sets′ d
-        → Answered c v (bytesOf x) (verdict.Decided d) u′ (record { stamp = k′ .stamp; slot = k′ .slot; since = k′ .since; queued = k′ .queued; running = d .thread })
+        → Applied c v u′ k′ e′ r′ p′ n′ m′ q′ h′ budgets tops′ firsts′ sets′ (bytesOf x) → DecidesKept c u′ budgets tops′ firsts′ sets′ d
+        → StepAnswered c v (bytesOf x) (verdict.Decided d) u′ (record { stamp = k′ .stamp; slot = k′ .slot; since = k′ .since; queued = k′ .queued; running = d .thread })
         e′ r′ p′ n′ m′ q′ h′ budgets tops′ firsts′ sets′
     decided u′ k′ e′ r′ p′ n′ m′ q′ h′ tops′ firsts′ sets′ d a w =
         let b = bytesOf x in

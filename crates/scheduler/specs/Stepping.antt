@@ -27,7 +27,7 @@ pub record Whole (c : Settings) (u : List ℕ) (k : Clock) (e r p n m q h budget
   pub held : Held c u p n m (take (k .queued) q) budgets tops firsts sets
 
 -- the event b was answered on v as the model says, and the invariant holds again
-pub record Answered (c : Settings) (v : Saved) (b : List ℕ) (x : Verdict) (u : List ℕ) (k : Clock) (e r p n m q h budgets tops firsts : List ℕ) (sets : Sets) : Type 0 where
+pub record StepAnswered (c : Settings) (v : Saved) (b : List ℕ) (x : Verdict) (u : List ℕ) (k : Clock) (e r p n m q h budgets tops firsts : List ℕ) (sets : Sets) : Type 0 where
   pub line : lineOf x ≡ answerLine (answer v b)
   pub after : saved (stateOf c u k e r p n m q) h ≡ answer v b .after
   pub whole : Whole c u k e r p n m q h budgets tops firsts sets

@@ -15,7 +15,7 @@ ghost use Rattle.model.specs.Event.{refused, stampOf};
 ghost use Rattle.model.specs.Arrays.{stateOf};
 ghost use Rattle.model.specs.Step.{saved};
 ghost use Rattle.event.specs.Bytes.{bytesOf};
-ghost use Rattle.scheduler.specs.Stepping.{Whole, Answered, Still, refusedBy};
+ghost use Rattle.scheduler.specs.Stepping.{Whole, StepAnswered, Still, refusedBy};
 
 // What an event is answered; the clock and the sets after it.
 pub struct Stepped {
@@ -44,7 +44,7 @@ fn accept(
 ) -> Stepped
     requires { ⌜ Whole settings (now used) c (now exists) (now ready) (now partitions) (now priorities) (now masks) (now queue) (now history) (now budgets) (now tops) (now firsts) sets × (refused (stateOf settings (now used) c (now exists) (now ready) (now partitions) (now priorities) (now masks) (now queue)) (now history) (bytesOf event) ≡ 0) × (event .stamp ≡ stampOf (bytesOf event)) ⌝ }
     ensures { λ r. ⌜
-        Answered settings
+        StepAnswered settings
         (saved (stateOf settings (now (used .entry)) c (now (exists .entry)) (now (ready .entry)) (now (partitions .entry)) (now (priorities .entry)) (now (masks .entry)) (now (queue .entry))) (now (history .entry)))
         (bytesOf event)
         (r .verdict)
@@ -118,7 +118,7 @@ pub fn step(
 ) -> Stepped
     requires { ⌜ Whole settings (now used) c (now exists) (now ready) (now partitions) (now priorities) (now masks) (now queue) (now history) (now budgets) (now tops) (now firsts) sets ⌝ }
     ensures { λ r. ⌜
-        Answered settings
+        StepAnswered settings
         (saved (stateOf settings (now (used .entry)) c (now (exists .entry)) (now (ready .entry)) (now (partitions .entry)) (now (priorities .entry)) (now (masks .entry)) (now (queue .entry))) (now (history .entry)))
         (now (event .entry))
         (r .verdict)

@@ -25,7 +25,7 @@ use Rattle.model.specs.Run.{Entry, run, fresh, after}
 use Rattle.model.specs.Doors.{refusedStart, answerTo}
 use Rattle.model.specs.Answers.{Line, answerLine}
 use Rattle.model.specs.Lent as Lent
-use Rattle.model.specs.Lent.{Lent, clockOf, stateIn, savedIn, refusedIn}
+use Rattle.model.specs.Lent.{Lent, lentClock, stateIn, savedIn, refusedIn}
 use Rattle.model.proofs.Flags.{accepted}
 use Rattle.model.proofs.Table.{threads-length}
 use Rattle.guarantee.specs.Demand3 as Demand3
@@ -145,7 +145,7 @@ door-demand3 x (c ∷ cs) q before opening within closing later e st = go (ℕ-d
 
     go : Dec (refusedIn x ≡ 0) → Promised
     go (yes z) =
-        demand3 (savedIn x) (lengths x (q .0 .sizes)) (accepted (Lent.settingsOf x) (x .used) (clockOf x) (x .exists) (x .ready) (x .partitions) (x .priorities) (x .masks) (x .queue) (x .history) z .2)
+        demand3 (savedIn x) (lengths x (q .0 .sizes)) (accepted (Lent.lentSettings x) (x .used) (lentClock x) (x .exists) (x .ready) (x .partitions) (x .priorities) (x .masks) (x .queue) (x .history) z .2)
         (givenTo calls) before opening within closing later (sym (entries-run x calls q z) ∙ e) st
     go (no n) =
         let none = subst (λ (l : List Entry). all (λ i. not (Demand3.accepted i)) l ≡ true) e (none-accepted x calls (refused-stays x calls q n) n) in

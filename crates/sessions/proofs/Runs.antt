@@ -14,8 +14,8 @@ use Rattle.lists.proofs.Tests.{clash}
 use Rattle.lists.proofs.All.{below-all}
 use Rattle.lists.proofs.Tables.{table-length, table-at}
 use Rattle.units.specs.declared.Cycles.{Cycles}
-use Rattle.model.specs.State.{absent, Thread}
-use Rattle.model.specs.Arrays.{flag, cycles, threadIn, threadsIn, plain}
+use Rattle.model.specs.State.{cycles, absent, Thread}
+use Rattle.model.specs.Arrays.{flag, threadIn, threadsIn, plain}
 use Rattle.model.specs.Typed.{Lengths}
 use Rattle.model.specs.Event.{refusedState, refused}
 use Rattle.model.specs.Policy.{decide}
@@ -23,7 +23,7 @@ use Rattle.model.specs.Step.{Saved, apply, settle, Answer, answer, nothing}
 use Rattle.model.specs.Run.{run, after}
 use Rattle.model.specs.Answers.{answerLine, textOf}
 use Rattle.model.specs.Lent as Lent
-use Rattle.model.specs.Lent.{Lent, lent, clockOf, stateIn, savedIn, refusedIn}
+use Rattle.model.specs.Lent.{Lent, lent, lentClock, stateIn, savedIn, refusedIn}
 use Rattle.model.specs.Stream.{eventsIn, linesOf}
 use Rattle.model.specs.Doors.{takenBy, answerTo, afterRun, linesAfter}
 use Rattle.model.proofs.Accepted.{fit-of, of-fit}
@@ -95,7 +95,7 @@ flags-plain f z ts = below-all (λ i. leb (getD (number (λ t. flag (f t)) ts) i
     one true = refl
     one false = refl
 
-stored-back : (x : Lent) (v : Saved) → Lengths (v .state) → v .state .settings ≡ Lent.settingsOf x → savedIn (stored x v) ≡ v
+stored-back : (x : Lent) (v : Saved) → Lengths (v .state) → v .state .settings ≡ Lent.lentSettings x → savedIn (stored x v) ≡ v
 stored-back x v l e = λ i. record {
   state = record {
     settings = sym e i;
@@ -149,10 +149,10 @@ answer-there x s b = go (ℕ-discrete (refusedIn x) 0)
     )
     go (yes z) = accepts (ℕ-discrete (answerTo x b .refusal) 0)
       where
-        good : Good (Lent.settingsOf x) (answer (savedIn x) b .after)
+        good : Good (Lent.lentSettings x) (answer (savedIn x) b .after)
         good =
-            let (_, _, t) = accepted (Lent.settingsOf x) (x .used) (clockOf x) (x .exists) (x .ready) (x .partitions) (x .priorities) (x .masks) (x .queue) (x .history) z in
-            good-answer (Lent.settingsOf x) (savedIn x) b (record { fit = fit-of (stateIn x) (x .history) t; lengths = lengths x s; settings = refl })
+            let (_, _, t) = accepted (Lent.lentSettings x) (x .used) (lentClock x) (x .exists) (x .ready) (x .partitions) (x .priorities) (x .masks) (x .queue) (x .history) z in
+            good-answer (Lent.lentSettings x) (savedIn x) b (record { fit = fit-of (stateIn x) (x .history) t; lengths = lengths x s; settings = refl })
 
         v : Saved
         v = answer (savedIn x) b .after
@@ -165,7 +165,7 @@ answer-there x s b = go (ℕ-discrete (refusedIn x) 0)
 
         fine : refusedIn (stored x v) ≡ 0
         fine =
-            as-state (Lent.settingsOf x) (stored x v .used) (clockOf (stored x v)) (stored x v .exists) (stored x v .ready) (stored x v .partitions) (stored x v .priorities) (stored x v .masks) (stored x v .queue) (v .history)
+            as-state (Lent.lentSettings x) (stored x v .used) (lentClock (stored x v)) (stored x v .exists) (stored x v .ready) (stored x v .partitions) (stored x v .priorities) (stored x v .masks) (stored x v .queue) (v .history)
             (flags-plain (λ t. t .exists) refl (v .state .threads)) (flags-plain (λ t. t .ready) refl (v .state .threads))
             ∙ subst (λ (w : Saved). refusedState (w .state) (w .history) ≡ 0) (sym back) (of-fit (v .state) (v .history) (good .fit))
 

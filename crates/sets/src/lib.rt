@@ -1,7 +1,7 @@
 // Sets of the numbers below 16, as a number's binary digits.
 ghost use mathlib.Core.Logic.{_≢_};
 ghost use Prim.Native.Nat.{_<_};
-ghost use Rattle.sets.specs.Bits.{Put, Taken, Only, Marked, Lowest, Rested};
+ghost use Rattle.sets.specs.Bits.{Put, TakenOut, Only, Marked, Lowest, Rested};
 
 pub fn put(set: u16, p: u8) -> u16
     requires { ⌜ p < 16 ⌝ }
@@ -12,7 +12,7 @@ pub fn put(set: u16, p: u8) -> u16
 
 pub fn take_out(set: u16, p: u8) -> u16
     requires { ⌜ p < 16 ⌝ }
-    ensures { λ r. ⌜ Taken 16 set p r ⌝ }
+    ensures { λ r. ⌜ TakenOut 16 set p r ⌝ }
 {
     set & !(1u16 << p)
 }

@@ -15,7 +15,7 @@ use Rattle.lists.proofs.Tests.{both, clash}
 use Rattle.lists.proofs.Loops.{any-take, distinct-take}
 use Rattle.lists.proofs.Union.{or-none}
 use Rattle.model.specs.Arrays.{flag}
-use Rattle.soundness.specs.Queue.{Seen, Marked}
+use Rattle.soundness.specs.Queue.{Seen, SeenOnce}
 
 -- a flag is 0 where it is off
 flag-none : (b : Bool) → eqb (flag b) 0 ≡ not b
@@ -75,13 +75,13 @@ take-rests (suc n) [] = refl
 take-rests (suc n) (x ∷ q) = ap (λ (l : List ℕ). x % 64 ∷ l) (take-rests n q)
 
 pub marked : (n : ℕ) (q seen : List ℕ) (a b : Bool) → a ≡ distinct (take n (rests q)) → b ≡ all (λ t. ltb t 64) (take n q) → Seen seen (take n (rests q))
-    → Marked (take n q) (a && b) seen
+    → SeenOnce (take n q) (a && b) seen
 marked n q seen a b e f s = go b refl
   where
     l : List ℕ
     l = take n q
 
-    go : (z : Bool) → b ≡ z → Marked l (a && z) seen
+    go : (z : Bool) → b ≡ z → SeenOnce l (a && z) seen
     go true p =
         let low : all (λ t. ltb t 64) l ≡ true = sym f ∙ p in
         let k : take n (rests q) ≡ l = take-rests n q ∙ rests-same l low in

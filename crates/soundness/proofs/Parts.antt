@@ -8,14 +8,14 @@ use lib.ListN.{getD, take, drop}
 use Rattle.lists.specs.Lists.{below, all, member}
 use Rattle.lists.proofs.Every.{all-same}
 use Rattle.model.specs.Arrays.{flag}
-use Rattle.soundness.specs.Queue.{holdsReady, Marked}
+use Rattle.soundness.specs.Queue.{holdsReady, SeenOnce}
 
 pub queue-long : (r q : List ℕ) (n : ℕ) → leb n 64 ≡ false → false ≡ holdsReady r q n
 unfolding holdsReady
 queue-long r q n e = rw e
 
 pub queue-parts : (r q : List ℕ) (n : ℕ) (seen : List ℕ) (a b z : Bool) → leb n 64 ≡ true
-    → Marked (take n q) a seen
+    → SeenOnce (take n q) a seen
     → b ≡ all (λ t. eqb (getD r t 0) (getD seen t 0)) (below 64)
     → z ≡ all (eqb 0) (drop n q)
     → (a && b && z) ≡ holdsReady r q n

@@ -15,8 +15,8 @@ use Rattle.lists.proofs.Every.{all-same}
 use Rattle.units.specs.declared.Cycles.{Cycles}
 use Rattle.sheet.specs.Settings.{W, C, share}
 use Rattle.sheet.specs.declared.Settings.{Settings}
-use Rattle.model.specs.State.{thread, allows, used, row, State, Thread}
-use Rattle.model.specs.Arrays.{flag, cycles, threadIn, stateOf, plain}
+use Rattle.model.specs.State.{cycles, thread, allows, used, row, State, Thread}
+use Rattle.model.specs.Arrays.{flag, threadIn, stateOf, plain}
 use Rattle.model.specs.Sound.{sameBool, slotSum, soundHistory, soundThread, soundQueue, soundRest, soundRunning}
 use Rattle.model.specs.declared.Clock.{Clock}
 use Rattle.model.proofs.Table.{thread-at, flag-on}

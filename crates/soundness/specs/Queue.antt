@@ -22,7 +22,7 @@ abbrev pub Seen : List ℕ → List ℕ → Type 0
 Seen seen ts = (t : ℕ) → t < 64 → getD seen t 0 ≡ flag (member t ts)
 
 -- what one pass over the entries ts finds: whether each stands there once and is a thread's number, and then which threads they are
-pub record Marked (ts : List ℕ) (fine : Bool) (seen : List ℕ) : Type 0 where
+pub record SeenOnce (ts : List ℕ) (fine : Bool) (seen : List ℕ) : Type 0 where
   pub once : fine ≡ (distinct ts && all (λ t. ltb t 64) ts)
   pub marks : fine ≡ true → Seen seen ts
 

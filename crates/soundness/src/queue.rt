@@ -3,7 +3,7 @@ ghost use mathlib.Core.Path.{_≡_};
 ghost use lib.Dec.{eqb};
 ghost use lib.ListN.{length, getD, take, drop, replicate};
 ghost use Rattle.lists.specs.Lists.{all, below};
-ghost use Rattle.soundness.specs.Queue.{holdsReady, Marked, Entries};
+ghost use Rattle.soundness.specs.Queue.{holdsReady, SeenOnce, Entries};
 
 // The array as it is. That it has 64 numbers is known of a value, and not of what a reference lends.
 fn sized(entries: [u8; 64]) -> [u8; 64]
@@ -16,7 +16,7 @@ fn sized(entries: [u8; 64]) -> [u8; 64]
 // marks some other thread, but it shows in `bits`, where all entries' bits are joined.
 fn mark(queue: &[u8; 64], n: usize, seen: &mut [u8; 64]) -> bool
     requires { ⌜ Entries (now queue) n × (now seen ≡ replicate 64 0) ⌝ }
-    ensures { λ r. ⌜ Marked (take n (now (queue .entry))) r (now (seen .exit)) ⌝ }
+    ensures { λ r. ⌜ SeenOnce (take n (now (queue .entry))) r (now (seen .exit)) ⌝ }
 {
     let mut again: u8 = 0;
     let mut bits: u8 = 0;

@@ -14,7 +14,7 @@ use Rattle.lists.specs.Lists.{any, member, keep, distinct}
 use Rattle.lists.proofs.Tests.{both, neither}
 use Rattle.lists.proofs.All.{without-none}
 use Rattle.model.specs.Step.{leaves}
-use Rattle.threads.specs.Entries.{Queue, queueIn, queueFrom, Stored, FirstAt, without, removed}
+use Rattle.threads.specs.Entries.{Queue, queueIn, queueFrom, QueueStored, FirstAt, without, removed}
 
 abbrev zeros : ℕ → List ℕ
 zeros n = replicate n 0
@@ -27,7 +27,7 @@ zeros-open n h =
     let e : 64 - n ≡ suc (64 - (n + 1)) = omega arith in
     rw e
 
-module _ (es : List ℕ) (n : ℕ) (s : Stored es n) where
+module _ (es : List ℕ) (n : ℕ) (s : QueueStored es n) where
   pub counted : length (take n es) ≡ n
   unfolding queueFrom
   counted = sym (ap (λ (k : Queue). k .length) s)
@@ -120,7 +120,7 @@ leaves-at (x ∷ l) t (suc i) d m h e =
     let ih = leaves-at l t i (both (not (member x l)) (distinct l) d .1) (n .1) (omega arith) e in
     rw (ne-eqb x t (λ q. eqb-false t x (n .0) (sym q))) (ap (λ (r : List ℕ). x ∷ r) ih)
 
-module _ (es : List ℕ) (n t i : ℕ) (s : Stored es n) (f : FirstAt (take n es) t i) where
+module _ (es : List ℕ) (n t i : ℕ) (s : QueueStored es n) (f : FirstAt (take n es) t i) where
   pub stays : n ≤ i → queueIn es n ≡ queueFrom (leaves (take n es) t)
   unfolding leaves
   stays h =

@@ -12,7 +12,7 @@ ghost use Rattle.lists.specs.Lists.{distinct};
 ghost use Rattle.model.specs.State.{absent};
 ghost use Rattle.model.specs.Step.{created, leaves};
 ghost use Rattle.model.specs.Arrays.{threadsIn, tablesIn, Regular};
-ghost use Rattle.threads.specs.Entries.{Stored, queueIn, queueFrom};
+ghost use Rattle.threads.specs.Entries.{QueueStored, queueIn, queueFrom};
 ghost use Rattle.event.specs.Bytes.{bytesOf};
 ghost use Rattle.threads.specs.Able.{Able, Acted};
 
@@ -46,7 +46,7 @@ fn create(
 
 // The thread joins the queue at its tail, and is ready.
 fn join(ready: &mut [u8; 64], queue: &mut [u8; 64], queued: u32, t: u8) -> u32
-    requires { ⌜ (t < 64) × Stored (now queue) queued × (queued < 64) ⌝ }
+    requires { ⌜ (t < 64) × QueueStored (now queue) queued × (queued < 64) ⌝ }
     ensures { λ r. ⌜
         (now (ready .exit) ≡ set (now (ready .entry)) t 1)
         × (queueIn (now (queue .exit)) r ≡ queueFrom (take queued (now (queue .entry)) ++ (t ∷ [])))
@@ -59,7 +59,7 @@ fn join(ready: &mut [u8; 64], queue: &mut [u8; 64], queued: u32, t: u8) -> u32
 
 // The thread leaves the queue, and is no longer ready.
 fn block(ready: &mut [u8; 64], queue: &mut [u8; 64], queued: u32, t: u8) -> u32
-    requires { ⌜ (t < 64) × Stored (now queue) queued × (queued ≤ 64) × (distinct (take queued (now queue)) ≡ true) ⌝ }
+    requires { ⌜ (t < 64) × QueueStored (now queue) queued × (queued ≤ 64) × (distinct (take queued (now queue)) ≡ true) ⌝ }
     ensures { λ r. ⌜
         (now (ready .exit) ≡ set (now (ready .entry)) t 0)
         × (queueIn (now (queue .exit)) r ≡ queueFrom (leaves (take queued (now (queue .entry))) t))

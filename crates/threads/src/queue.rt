@@ -7,11 +7,11 @@ ghost use Prim.Native.Nat.{_<_, _≤_};
 ghost use lib.ListN.{length, take};
 ghost use Rattle.lists.specs.Lists.{distinct};
 ghost use Rattle.model.specs.Step.{leaves};
-ghost use Rattle.threads.specs.Entries.{Stored, queueIn, queueFrom, FirstAt, removed};
+ghost use Rattle.threads.specs.Entries.{QueueStored, queueIn, queueFrom, FirstAt, removed};
 
 // One thread more at the tail.
 pub fn append(entries: &mut [u8; 64], queued: u32, t: u8) -> u32
-    requires { ⌜ Stored (now entries) queued × (queued < 64) ⌝ }
+    requires { ⌜ QueueStored (now entries) queued × (queued < 64) ⌝ }
     ensures { λ r. ⌜ queueIn (now (entries .exit)) r ≡ queueFrom (take queued (now (entries .entry)) ++ (t ∷ [])) ⌝ }
 {
     let n = queued as usize;
@@ -51,7 +51,7 @@ fn remove(entries: &mut [u8; 64], n: usize, at: usize)
 
 // Thread t leaves, if it is one of the entries.
 pub fn leave(entries: &mut [u8; 64], queued: u32, t: u8) -> u32
-    requires { ⌜ Stored (now entries) queued × (queued ≤ 64) × (distinct (take queued (now entries)) ≡ true) ⌝ }
+    requires { ⌜ QueueStored (now entries) queued × (queued ≤ 64) × (distinct (take queued (now entries)) ≡ true) ⌝ }
     ensures { λ r. ⌜ queueIn (now (entries .exit)) r ≡ queueFrom (leaves (take queued (now (entries .entry))) t) ⌝ }
 {
     let n = queued as usize;

@@ -1,7 +1,6 @@
 use mathlib.Core.Path.{_≡_, refl}
 use Prim.Native.Nat.{_-_}
 use native.Mathlib.Omega.{arith}
-use borrow.Author.Needs.{needs}
 use lib.ListN.{length, length-set}
 use Rattle.desk.proofs.keep.Statement.{statement}
 use Rattle.desk.proofs.keep.Tie as tie

@@ -10,7 +10,7 @@ use Rattle.model.specs.Event.{stampOf, refusedEvent}
 use Rattle.model.specs.Step.{saved}
 use Rattle.event.specs.Bytes.{bytesOf}
 use Rattle.admission.proofs.Forms.{formed, event-of}
-use Rattle.scheduler.specs.Stepping.{Answered}
+use Rattle.scheduler.specs.Stepping.{StepAnswered}
 use Rattle.scheduler.specs.declared.Stepped.{Stepped}
 use Rattle.scheduler.proofs.SchedulerLaws.{no-event, taken-event, same, taken-still}
 use borrow.Author.Needs.{needs}
@@ -71,7 +71,7 @@ returns c =
     let t = c .before .before .before .before .before in
     let a = start t .args in
     let g = start t .pre in (
-      subst (λ (z : Stepped). Answered (a .settings) (saved (given t) (now (a .history))) (now (a .event)) (z .verdict) (now (a .used)) (z .clock) (now (a .exists)) (now (a .ready)) (now (a .partitions)) (now (a .priorities)) (now (a .masks)) (now (a .queue)) (now (a .history)) (now (a .budgets)) (now (a .tops)) (now (a .firsts)) (z .sets)) (sym (c .refuse .ensures))
+      subst (λ (z : Stepped). StepAnswered (a .settings) (saved (given t) (now (a .history))) (now (a .event)) (z .verdict) (now (a .used)) (z .clock) (now (a .exists)) (now (a .ready)) (now (a .partitions)) (now (a .priorities)) (now (a .masks)) (now (a .queue)) (now (a .history)) (now (a .budgets)) (now (a .tops)) (now (a .firsts)) (z .sets)) (sym (c .refuse .ensures))
           (no-event (a .settings) (now (a .used)) (a .c) (now (a .exists)) (now (a .ready)) (now (a .partitions)) (now (a .priorities)) (now (a .masks)) (now (a .queue)) (now (a .history)) (now (a .budgets)) (now (a .tops)) (now (a .firsts)) (a .sets) g (now (a .event)) (t .refused-event .result) _ (c .before .before .outcome .given .1) (number t)),
       λ _. same (a .settings) (now (a .used)) (a .c) (now (a .exists)) (now (a .ready)) (now (a .partitions)) (now (a .priorities)) (now (a .masks)) (now (a .queue)) (now (a .history)) (now (a .budgets)) (now (a .tops)) (now (a .firsts)) (a .sets) g _ (ap (λ (z : Stepped). z .clock) (c .refuse .ensures)),
     )
@@ -88,7 +88,7 @@ returns-2 c =
     let f = c .before .before .before .before .before .before .before .before .before .before .before .before .before .enum-told .given .1 in
     let e = taken t f in
     let b = bytesOf (decoded t .decode .result .event) in (
-      subst (λ (l : List ℕ). Answered (a .settings) (saved (given t) (now (a .history))) l (d .result .verdict) (d .last .1 .0) (d .result .clock) (d .last .1 .1 .0) (d .last .1 .1 .1 .0) (d .last .1 .1 .1 .1 .0) (d .last .1 .1 .1 .1 .1 .0) (d .last .1 .1 .1 .1 .1 .1 .0) (d .last .1 .1 .1 .1 .1 .1 .1 .0) (d .last .1 .1 .1 .1 .1 .1 .1 .1 .1 .1 .1 .0) (now (a .budgets)) (d .last .1 .1 .1 .1 .1 .1 .1 .1 .1 .0) (d .last .1 .1 .1 .1 .1 .1 .1 .1 .1 .1 .0) (d .result .sets)) (sym (e .0)) (d .ensures),
+      subst (λ (l : List ℕ). StepAnswered (a .settings) (saved (given t) (now (a .history))) l (d .result .verdict) (d .last .1 .0) (d .result .clock) (d .last .1 .1 .0) (d .last .1 .1 .1 .0) (d .last .1 .1 .1 .1 .0) (d .last .1 .1 .1 .1 .1 .0) (d .last .1 .1 .1 .1 .1 .1 .0) (d .last .1 .1 .1 .1 .1 .1 .1 .0) (d .last .1 .1 .1 .1 .1 .1 .1 .1 .1 .1 .1 .0) (now (a .budgets)) (d .last .1 .1 .1 .1 .1 .1 .1 .1 .1 .0) (d .last .1 .1 .1 .1 .1 .1 .1 .1 .1 .1 .0) (d .result .sets)) (sym (e .0)) (d .ensures),
       λ no. absurd (taken-still (a .settings) (now (a .used)) (a .c) (now (a .exists)) (now (a .ready)) (now (a .partitions)) (now (a .priorities)) (now (a .masks)) (now (a .queue)) (now (a .history)) (now (a .budgets)) (now (a .tops)) (now (a .firsts)) (a .sets) g (now (a .event)) b (e .0) (taken-event (a .settings) (now (a .used)) (a .c) (now (a .exists)) (now (a .ready)) (now (a .partitions)) (now (a .priorities)) (now (a .masks)) (now (a .queue)) (now (a .history)) (now (a .budgets)) (now (a .tops)) (now (a .firsts)) (a .sets) g b (t .refused-event .result) f (number t ∙ ap (refusedEvent (given t)) (e .0))) no),
     )
 

@@ -2,7 +2,7 @@ use mathlib.Core.Path.{sym, subst}
 use Prim.Native.Nat.{ℕ}
 use denote.Ref.{now}
 use Rattle.sheet.specs.Settings.{W}
-use Rattle.accounts.specs.Lowered.{Held}
+use Rattle.accounts.specs.Lowered.{Covered}
 use Rattle.accounts.proofs.WindowLaws.{moved}
 use borrow.Author.Needs.{needs}
 use Rattle.accounts.proofs.window.move_slot.Statement.{statement}
@@ -15,7 +15,7 @@ clear-slot-requires : tie.Need-clear-slot-requires
 clear-slot-requires c κs =
     let start = c .before .before .before .before .before .before .before in
     let a = start .args in
-    (start .pre .0, subst (λ (x : ℕ). Held (now (a .used)) (now (a .history)) (W (a .settings)) (a .settings .count) x) (sym (c .before .before .next-slot .ensures)) (start .pre .2))
+    (start .pre .0, subst (λ (x : ℕ). Covered (now (a .used)) (now (a .history)) (W (a .settings)) (a .settings .count) x) (sym (c .before .before .next-slot .ensures)) (start .pre .2))
 
 same-length : tie.Need-same-length
 same-length c = search needs

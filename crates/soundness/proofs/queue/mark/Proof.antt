@@ -11,7 +11,7 @@ use denote.Ref.{now}
 use Rattle.lists.specs.Lists.{all, distinct}
 use Rattle.lists.proofs.Loops.{all-take}
 use Rattle.lists.proofs.Union.{or-below}
-use Rattle.soundness.specs.Queue.{Seen, Marked}
+use Rattle.soundness.specs.Queue.{Seen, SeenOnce}
 use Rattle.soundness.proofs.Marking.{rests, seen-none, again-more, seen-more, marked}
 use Rattle.soundness.proofs.queue.mark.Statement.{statement}
 use Rattle.soundness.proofs.queue.mark.Tie as tie
@@ -73,7 +73,7 @@ returns c =
     let turn = c .before .loop in
     let q = now (start .args .queue) in
     let e : turn .i ≡ start .args .n = omega arith in
-    subst (λ (k : ℕ). Marked (take k q) (eqb (turn .again) 0 && ltb (turn .bits) 64) (turn .seen)) e
+    subst (λ (k : ℕ). SeenOnce (take k q) (eqb (turn .again) 0 && ltb (turn .bits) 64) (turn .seen)) e
     (marked (turn .i) q (turn .seen) _ _ (turn .inv .2) (turn .inv .3) (turn .inv .4))
 
 pub mark-spec : {M : Type 1} → statement M
