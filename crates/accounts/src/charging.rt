@@ -1,12 +1,10 @@
 // The charge: elapsed time goes to the partition of the thread that ran, in the lent totals and in the lent history.
+use crate::IDLE;
 use crate::history;
 use model::Clock;
 use sheet::Settings;
 use units::Cycles;
 ghost use Rattle.accounts.specs.Charged.{Payable, Charged};
-
-// The number of no thread: nothing runs.
-const IDLE: u32 = 255;
 
 // Elapsed time goes to the running thread's partition in the current slot, and to the time since tick; the event's stamp is the old one for
 // the next event.

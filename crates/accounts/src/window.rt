@@ -1,4 +1,5 @@
 // The window: what the charge, a tick and a resume do to the lent totals and the lent history, and who has budget after it.
+use crate::IDLE;
 use crate::charging;
 use crate::history;
 use crate::solvency;
@@ -15,9 +16,6 @@ ghost use Rattle.accounts.specs.Charged.{Payable, Charged};
 ghost use Rattle.accounts.specs.Lowered.{Covered};
 ghost use Rattle.accounts.specs.Solvency.{WeighedIn, Reweighed};
 ghost use Rattle.accounts.specs.Window.{Moved, Restarted};
-
-// The number of no thread: nothing runs.
-const IDLE: u32 = 255;
 
 // The clock after it, and the set of partitions that have budget.
 pub struct Account {

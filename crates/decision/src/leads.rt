@@ -118,7 +118,7 @@ pub fn build(
     set
 }
 
-// The leads of some partitions anew, each by a walk along the queue: document 01's "nested search over partitions and line entries". The outer
+// The leads of some partitions anew, each by a walk along the queue: document 01's nested search "over partitions and line entries". The outer
 // loop goes over the partitions, the loop in it over the queue; it yields the lead by `break`, at the latest at the queue's end, and at once
 // where a thread has the priority that none is above. Gives the set of competing partitions.
 pub fn renew(

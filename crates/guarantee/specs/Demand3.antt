@@ -122,7 +122,7 @@ Served s es =
     ((n : ℕ) → n ≤ length within → waits s (before ++ (opening ∷ take n within)) p ≡ true) →
     bound (s .settings) p ≤ℤ pos (chargedTo p (lastOf opening) (within ++ (closing ∷ [])))
 
--- DEMAND 3: so it is from any state that the event door takes, in every list of events. The lengths are those of every value of the struct
+-- DEMAND 3: so it is from any state that the event door takes, in every list of events. The lengths are those of the arrays that are lent
 abbrev pub Demand3 : Type 0
 Demand3 =
     (v : Saved) → Lengths (v .state) → refusedState (v .state) (v .history) ≡ 0 → (events : List (List ℕ)) → Served (v .state) (run v events)

@@ -20,7 +20,7 @@ use Rattle.model.specs.Doors.{refusedStart}
 
 -- ---- soundness
 
--- a value of the Rust types that every door takes: its settings within their limits, its history long enough, its state sound
+-- a state and a history that every door takes: its settings within their limits, its history long enough, its state sound
 pub record Taken (v : Saved) : Type 0 where
   pub typed : Typed (v .state) (v .history)
   pub taken : refusedState (v .state) (v .history) ≡ 0

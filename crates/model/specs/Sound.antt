@@ -27,14 +27,14 @@ soundHistory s h =
     && all (λ k. leb (slotSum s h k) (2 * C (s .settings))) (below (W (s .settings)))
     && leb (slotSum s h (s .slot .0)) (s .since .0)
 
--- "existing threads with a valid partition and a mask other than 0; records of absent threads all zero"
+-- "existing threads with a valid partition and a mask other than 0", "records of absent threads .. all zero"
 unfoldable pub soundThread : ℕ → Thread → Bool
 soundThread count r =
     cond (r .exists)
     (ltb (r .partition) count && not (eqb (r .mask) 0))
     (not (r .ready) && eqb (r .partition) 0 && eqb (r .priority) 0 && eqb (r .mask) 0)
 
--- "the line without repeats and holding exactly the ready threads, all existing; unused places of the line zero"
+-- "the line without repeats and holding exactly the ready threads, all existing; unused places of the line .. all zero"
 unfoldable pub soundQueue : State → Bool
 soundQueue s =
     leb (s .queued) 64

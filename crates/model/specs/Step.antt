@@ -6,7 +6,7 @@ use mathlib.Core.Option.{Option, none, some}
 use lib.ListN.{length, getD, set, drop, replicate}
 use lib.Dec.{eqb}
 use Rattle.lists.specs.Lists.{keep}
-use Rattle.units.specs.Units.{elapsedOf}
+use Rattle.units.specs.Units.{elapsedOf, nextOf}
 use Rattle.sheet.specs.Settings.{W}
 use Rattle.model.specs.State.{cycles, absent, thread, queueOf, idle, used, place, wanted, Thread, State}
 use Rattle.model.specs.Policy.{Decided, decide}
@@ -106,7 +106,7 @@ unfoldable pub addHistory : State → Option ℕ → ℕ → List ℕ → List �
 addHistory s none e h = h
 addHistory s (some p) e h = set h (place s p (s .slot .0)) (getD h (place s p (s .slot .0)) 0 + e)
 
--- 1. "Elapsed is charged to the running thread's partition in the current slot. It is added to the time since tick, and the event's stamp is
+-- 1. "Elapsed is charged to the running thread's partition in the current slot .. It is added to the time since tick, and the event's stamp is
 -- the old one for the next event"
 unfoldable pub charge : Saved → ℕ → Saved
 charge v stamp =
@@ -118,7 +118,7 @@ charge v stamp =
 
 -- the next slot
 abbrev pub next : State → ℕ
-next s = cond (eqb (s .slot .0 + 1) (W (s .settings))) 0 (s .slot .0 + 1)
+next s = nextOf (s .slot .0) (W (s .settings))
 
 -- slot k of rows of w numbers is cleared for every partition below n
 unfoldable pub clearHistory : ℕ → ℕ → ℕ → List ℕ → List ℕ
@@ -179,7 +179,7 @@ settle v = saved (withRunning (v .state) (decide (v .state) .thread)) (v .histor
 abbrev pub zeroRows : State → List ℕ → List ℕ
 zeroRows s h = replicate (wanted s) 0 ++ drop (wanted s) h
 
--- "Resume charges nothing. It takes the stamp as it is, clears all history, sets the slot and the time since tick to 0, and keeps the
+-- "Resume charges nothing .. It takes the stamp as it is, clears all history, sets the slot and the time since tick to 0, and keeps the
 -- threads and the line"
 unfoldable pub restart : Saved → ℕ → Saved
 restart v stamp =

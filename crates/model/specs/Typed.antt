@@ -1,4 +1,4 @@
--- What every value of the Rust types satisfies, whatever it holds: the arrays' lengths, and each number within its type.
+-- What the arrays that are lent satisfy by their types, whatever they hold: their lengths, and each number within its type.
 use Prim.Native.Nat.{ℕ, _^_, _<_}
 use mathlib.Core.Path.{_≡_}
 use mathlib.Core.List.{List}

@@ -1,20 +1,13 @@
 // Sets of the numbers below 16, as a number's binary digits.
 ghost use mathlib.Core.Logic.{_≢_};
 ghost use Prim.Native.Nat.{_<_};
-ghost use Rattle.sets.specs.Bits.{Put, TakenOut, Only, Marked, Lowest, Rested};
+ghost use Rattle.sets.specs.Bits.{Put, Only, Marked, Lowest, Rested};
 
 pub fn put(set: u16, p: u8) -> u16
     requires { ⌜ p < 16 ⌝ }
     ensures { λ r. ⌜ Put 16 set p r ⌝ }
 {
     set | (1u16 << p)
-}
-
-pub fn take_out(set: u16, p: u8) -> u16
-    requires { ⌜ p < 16 ⌝ }
-    ensures { λ r. ⌜ TakenOut 16 set p r ⌝ }
-{
-    set & !(1u16 << p)
 }
 
 pub fn only(p: u8) -> u16

@@ -31,7 +31,7 @@ fn tick_fits(tick: Cycles) -> bool
     (tick.0 % 100 == 0) & (100 <= tick.0) & (tick.0 <= 999900)
 }
 
-// "P 0 default, 1 ratio. M 0 to 7."
+// "P 0 default, 1 ratio (SCHEDPOL_RATIO). M 0 to 7."
 fn policy_and_core_fit(policy: u32, core: u32) -> bool
     ensures { λ r. ⌜ r ≡ policyAndCoreFit policy core ⌝ }
 {

@@ -8,7 +8,7 @@ use lib.ListN.{length, getD, take, drop}
 use Rattle.lists.specs.Lists.{below, all, member, distinct}
 use Rattle.model.specs.Arrays.{flag}
 
--- "the line without repeats and holding exactly the ready threads; unused places of the line zero"
+-- "the line without repeats and holding exactly the ready threads .. unused places of the line .. all zero"
 unfoldable pub holdsReady : List ℕ → List ℕ → ℕ → Bool
 holdsReady r q n =
     leb n 64

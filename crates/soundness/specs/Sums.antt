@@ -26,7 +26,7 @@ totalsAgree h u w n = all (λ p. eqb (getD u p 0) (sum (rowIn h w p))) (below n)
 abbrev pub slotsWithin : List ℕ → ℕ → ℕ → ℕ → Bool
 slotsWithin h w n most = all (λ k. leb (slotIn h w n k) most) (below w)
 
--- "slot below W; each total equal to its row's sum; each slot's sum over partitions at most 2 × C, and the current slot's at most the time
+-- "slot below W", "each total equal to its row's sum; each slot's sum over partitions at most 2 × C, and the current slot's at most the time
 -- since tick". What a slot may hold, and what the current one may, are given
 unfoldable pub booksAgree : List ℕ → List ℕ → ℕ → ℕ → ℕ → ℕ → ℕ → Bool
 booksAgree h u w n slot most current =

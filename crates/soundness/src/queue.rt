@@ -45,7 +45,7 @@ fn equal(a: &[u8; 64], b: &[u8; 64]) -> bool
     ok
 }
 
-// "unused places of the line all zero": from place n on.
+// "unused places of the line .. all zero": from place n on.
 fn zeros_from(queue: &[u8; 64], n: usize) -> bool
     requires { ⌜ Entries (now queue) n ⌝ }
     ensures { λ r. ⌜ r ≡ all (eqb 0) (drop n (now (queue .entry))) ⌝ }
@@ -59,7 +59,7 @@ fn zeros_from(queue: &[u8; 64], n: usize) -> bool
     ok
 }
 
-// "the line without repeats and holding exactly the ready threads; unused places of the line zero"
+// "the line without repeats and holding exactly the ready threads .. unused places of the line .. all zero"
 pub fn sound_queue(ready: &[u8; 64], queue: &[u8; 64], queued: u32) -> bool
     ensures { λ r. ⌜ r ≡ holdsReady (now (ready .entry)) (now (queue .entry)) queued ⌝ }
 {

@@ -2,7 +2,7 @@
 ghost use mathlib.Core.Path.{_≡_};
 ghost use Rattle.soundness.specs.Records.{soundRecords};
 
-// "existing threads with a valid partition and a mask other than 0; records of absent threads all zero", and each flag 0 or 1. One pass
+// "existing threads with a valid partition and a mask other than 0", "records of absent threads .. all zero", and each flag 0 or 1. One pass
 // without branches, so that it can be done for several threads at a time.
 pub fn sound_threads(
     exists: &[u8; 64],
