@@ -1,3 +1,4 @@
 pub mod Calls
 pub mod Decisions
 pub mod Runs
+pub mod Promised

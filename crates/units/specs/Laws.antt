@@ -1,0 +1,29 @@
+-- What document 01 says of the numbers that Units defines.
+use Prim.Native.Nat.{ℕ, suc, _+_, _-_, _*_, _/_, _%_, _^_, _≤_, _<_}
+use mathlib.Core.Path.{_≡_}
+use lib.Dec.{leb}
+use lib.IntN.{pos, negsuc}
+use Rattle.units.specs.Units.{budgetOf, elapsedOf, remainingOf, hasBudgetOf}
+
+-- elapsed against the true counter: of two readings of one that does not wrap, less than a round of 32 bits apart, it is the true distance
+abbrev pub ElapsedIsTrue : Type 0
+ElapsedIsTrue = (a b : ℕ) → a ≤ b → b - a < 2 ^ 32 → elapsedOf (b % 2 ^ 32) (a % 2 ^ 32) ≡ b - a
+
+-- "always whole": nothing is lost by the division
+abbrev pub BudgetsAreWhole : Type 0
+BudgetsAreWhole = (share window tick : ℕ) → tick % 100 ≡ 0 → 100 * budgetOf share window tick ≡ share * window * tick
+
+-- "The largest is 399,960,000"
+abbrev pub BudgetsFit : Type 0
+BudgetsFit =
+    (share window tick : ℕ) → tick % 100 ≡ 0 → share ≤ 100 → window ≤ 400 → tick ≤ 999900 → budgetOf share window tick ≤ 399960000
+
+-- remaining is exact: up to the budget, zero included, and "below zero after an overrun", which negsuc n, −1 − n, says
+abbrev pub RemainingIsExact : Type 0
+RemainingIsExact =
+    ((budget used : ℕ) → used ≤ budget → remainingOf budget used ≡ pos (budget - used))
+    × ((budget used : ℕ) → budget < used → remainingOf budget used ≡ negsuc (used - suc budget))
+
+-- "Has budget: remaining is at least C / 4", without signed numbers
+abbrev pub HasBudget : Type 0
+HasBudget = (budget used tick : ℕ) → hasBudgetOf (remainingOf budget used) tick ≡ leb (used + tick / 4) budget
