@@ -1,11 +1,13 @@
--- What the functions of the C interface are held to that no door has as it stands: the sheet's, over the settings' numbers as they are lent.
--- Each answers a number, and 0 is no refusal.
+-- What the functions of the C interface are held to that no door has as it stands: the sheet's, over the settings' numbers as they are lent,
+-- and what remains, as one lent number. Each answers a number, and 0 is no refusal.
 use mathlib.Core.Logic.{_≢_}
 use mathlib.Core.Path.{_≡_}
 use Prim.Native.Nat.{ℕ}
 use mathlib.Core.List.{List}
-use lib.ListN.{length}
+use lib.ListN.{length, getD}
+use Rattle.units.specs.Units.{signedOf}
 use Rattle.sheet.specs.Sheet.{settingsOf, refusedSheet, refusedWrite, bufferWritten}
+use Rattle.model.specs.Answers.{Remainder}
 use Rattle.model.specs.Lent.{settingsIn}
 
 -- a sheet's bytes were read into settings and shares, which were a and b
@@ -19,3 +21,9 @@ pub record SheetWritten (a b bytes : List ℕ) (number : ℕ) (bytes′ : List �
   pub refusal : number ≡ refusedWrite (settingsIn a b) (length bytes)
   -- the sheet and then what was there, or all that was there
   pub written : bytes′ ≡ bufferWritten (settingsIn a b) bytes
+
+-- what remains was told, in a word that was lent
+pub record RemainderTold (told : Remainder) (word : List ℕ) (number : ℕ) (word′ : List ℕ) : Type 0 where
+  pub refusal : number ≡ told .refusal
+  pub after : number ≡ 0 → signedOf (getD word′ 0 0) ≡ told .remaining
+  pub still : number ≢ 0 → word′ ≡ word
