@@ -5,4 +5,4 @@ pub mod batch;
 pub mod queries;
 pub mod single;
 pub mod start;
-mod words;
+pub mod words;
