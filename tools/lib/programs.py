@@ -45,7 +45,7 @@ def run(name, data, folder=None):
     try:
         done = subprocess.run([path], cwd=folder, input=data, stdout=subprocess.PIPE, stderr=subprocess.PIPE)
     except OSError as error:
-        raise Failed(f"{path.name} does not run on this machine: {error.strerror}. It is for Linux on x86-64, with the GNU C library")
+        raise Failed(f"{path.name} does not run on this machine: {error.strerror}. It is for Linux on x86-64")
     if done.returncode or done.stderr:
         raise Failed(f"{path.name} ended with status {done.returncode}: {done.stderr.decode(errors='replace').strip()}")
     return done.stdout
