@@ -3,7 +3,6 @@ use mathlib.Core.Path.{_≡_, refl, sym, ap, subst, _∙_}
 use Prim.Native.Nat.{ℕ}
 use mathlib.Core.Bool.{true}
 use mathlib.Core.List.{List, [], _∷_}
-use lib.Dec.{eqb}
 use borrow.Author.Tests.{eqb-true, ne-eqb}
 use native.Mathlib.Decide.{ℕ-discrete}
 use Rattle.lists.proofs.Tests.{clash}
@@ -22,8 +21,8 @@ use Rattle.invariants.specs.Promises.{IdleExactly, Busy}
 use Rattle.invariants.proofs.Choices.{idles, chooses, budget-first}
 use Rattle.guarantee.proofs.Looks.{decide-settle}
 use Rattle.doors.specs.Doors.{Answered}
-use Rattle.sessions.specs.Calls.{Call, Calls, chosenBy, accepts}
-use Rattle.sessions.specs.Decisions.{EachAccepted, Decides, DoorDecides}
+use Rattle.sessions.specs.Calls.{Call, chosenBy, accepts}
+use Rattle.sessions.specs.Decisions.{Decides, DoorDecides}
 use Rattle.sessions.proofs.Calls.{answer-yes, answer-no}
 
 accepted-answer : (v : Saved) (b : List ℕ) → answer v b .refusal ≡ 0

@@ -5,7 +5,7 @@ use mathlib.Core.Path.{_≡_}
 use mathlib.Core.Bool.{true}
 use mathlib.Core.List.{List, [], _∷_}
 use Rattle.model.specs.State.{idle}
-use Rattle.model.specs.Policy.{Decided, idleMode, competing, hasBudget, decide}
+use Rattle.model.specs.Policy.{idleMode, competing, hasBudget, decide}
 use Rattle.model.specs.Doors as Doors
 use Rattle.model.specs.Lent.{Lent, stateIn}
 use Rattle.invariants.specs.Promises.{Allowed, NoneAllowed, idleDecision, Busy}
