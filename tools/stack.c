@@ -157,7 +157,13 @@ int main(void)
         scenario(1, 1, 2, policy);
         scenario(16, 64, 400, policy);
     }
-    for (int i = 0; i < CALLS; i++)
+    int wrong = 0;
+    for (int i = 0; i < CALLS; i++) {
         printf("%-12s %5zu\n", calls[i].name, calls[i].most);
-    return 0;
+        if (calls[i].most > SAPLINGLOFT_STACK) {
+            printf("the header says at most %d\n", SAPLINGLOFT_STACK);
+            wrong = 1;
+        }
+    }
+    return wrong;
 }
