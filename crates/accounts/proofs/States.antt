@@ -6,17 +6,17 @@ use Rattle.sheet.specs.Settings.{C}
 use Rattle.sheet.specs.declared.Settings.{Settings}
 use Rattle.units.specs.Units.{remainingOf, hasBudgetOf}
 use Rattle.model.specs.Policy.{remaining, hasBudget}
-use Rattle.model.specs.Arrays.{stateOf}
+use Rattle.model.specs.Arrays.{Columns, stateOf}
 use Rattle.model.specs.declared.Clock.{Clock}
 use Rattle.accounts.proofs.ChargingLaws.{used-at}
 use Rattle.accounts.specs.Kept.{Weighed, Priced, TotalsAre}
 use Rattle.accounts.specs.Solvency.{WeighedIn}
 
-module _ (c : Settings) (u : List ℕ) (k : Clock) (e r ps ns ms q : List ℕ) where
-  pub totals : TotalsAre (stateOf c u k e r ps ns ms q) u
+module _ (c : Settings) (u : List ℕ) (k : Clock) (ts : Columns) (q : List ℕ) where
+  pub totals : TotalsAre (stateOf c u k ts q) u
   totals p b = sym (used-at u p)
 
-  pub weighed : (budgets : List ℕ) (paying set : ℕ) → Priced c budgets paying → WeighedIn u budgets (C c) (c .count) set → Weighed (stateOf c u k e r ps ns ms q) set
+  pub weighed : (budgets : List ℕ) (paying set : ℕ) → Priced c budgets paying → WeighedIn u budgets (C c) (c .count) set → Weighed (stateOf c u k ts q) set
   unfolding hasBudget remaining
   weighed budgets paying set price h p b =
       h p b ∙ ap₂ (λ (x y : ℕ). hasBudgetOf (remainingOf x y) (C c)) (price .amount p b) (totals p b)

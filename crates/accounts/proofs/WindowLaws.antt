@@ -13,7 +13,7 @@ use Rattle.units.specs.declared.Ticks.{Ticks}
 use Rattle.sheet.specs.Settings.{W}
 use Rattle.sheet.specs.declared.Settings.{Settings}
 use Rattle.model.specs.State.{cycles, thread, used, State, Thread}
-use Rattle.model.specs.Arrays.{stateOf}
+use Rattle.model.specs.Arrays.{columns, stateOf}
 use Rattle.model.specs.Step.{Saved, saved, billed, addUsed, charge, moveSlot, clearHistory, lowerUsed, restart}
 use Rattle.model.specs.declared.Clock.{Clock}
 use Rattle.model.proofs.Table.{thread-at}
@@ -41,10 +41,10 @@ used-paid s e n = rw (ne-eqb (s .running) 255 n)
 
 module _ (c : Settings) (u : List ℕ) (k : Clock) (p h u′ : List ℕ) (k′ : Clock) (h′ : List ℕ) (stamp : ℕ) (d : Charged c u k p h u′ k′ h′ stamp) where
   abbrev s : State
-  s = stateOf c u k [] [] p [] [] []
+  s = stateOf c u k (columns [] [] p [] []) []
 
   totals : map cycles u′ ≡ addUsed s (billed s) (elapsedOf stamp (k .stamp))
-  totals = ap (λ (v : Saved). v .state .used) (d [] [] [] [] []) ∙ charge-used s h stamp
+  totals = ap (λ (v : Saved). v .state .used) (d (columns [] [] p [] []) []) ∙ charge-used s h stamp
 
   total-as : (q : ℕ) (l : List Cycles) → map cycles u′ ≡ l → getD u′ q 0 ≡ getD l q (cycles 0) .0
   total-as q l e = sym (used-at u′ q) ∙ ap (λ (x : List Cycles). getD x q (cycles 0) .0) e
@@ -57,7 +57,7 @@ module _ (c : Settings) (u : List ℕ) (k : Clock) (p h u′ : List ℕ) (k′ :
 
   others : k .running ≢ 255 → k .running < 64 → (q : ℕ) → q ≢ payerOf k p → getD u′ q 0 ≡ getD u q 0
   others on low q n =
-      let who : thread s (k .running) .partition ≡ payerOf k p = ap (λ (t : Thread). t .partition) (thread-at [] [] p [] [] (k .running) low) in
+      let who : thread s (k .running) .partition ≡ payerOf k p = ap (λ (t : Thread). t .partition) (thread-at (columns [] [] p [] []) (k .running) low) in
       let x : Cycles = cycles (used s (thread s (k .running) .partition) + elapsedOf stamp (k .stamp)) in
       total-as q _ (totals ∙ used-paid s (elapsedOf stamp (k .stamp)) on)
       ∙ ap (λ (y : Cycles). y .0) (getD-set-other (map cycles u) (thread s (k .running) .partition) q x (cycles 0) (λ e. n (e ∙ who))) ∙ used-at u q
@@ -77,8 +77,8 @@ move-as s h n us h′ a b c = rw (b, c, a)
 module _ (c : Settings) (u : List ℕ) (k : Clock) (h : List ℕ) (n : Ticks) (u′ h′ : List ℕ) where
   pub moved : n .0 ≡ nextOf (k .slot .0) (W c) → u′ ≡ lowered (W c) (n .0) (c .count) u h → h′ ≡ clearHistory (W c) (n .0) (c .count) h
       → Moved c u k h u′ (record { stamp = k .stamp; slot = n; since = cycles 0; queued = k .queued; running = k .running }) h′
-  moved a b d e r p x m q =
-      let s = stateOf c u k e r p x m q in
+  moved a b d ts q =
+      let s = stateOf c u k ts q in
       move-as s h n (map cycles u′) h′ a (ap (map cycles) b ∙ lowered-totals (W c) (n .0) h (c .count) u) d
 
 -- ---- a resume
@@ -90,4 +90,4 @@ restart-as s h h′ stamp e = rw e
 
 pub restarted : (c : Settings) (u : List ℕ) (k : Clock) (h h′ : List ℕ) (stamp : ℕ) → h′ ≡ replicate (c .count * W c) 0 ++ drop (c .count * W c) h
     → Restarted c u k h (replicate 16 0) (record { stamp = stamp; slot = record { 0 = 0 }; since = cycles 0; queued = k .queued; running = k .running }) h′ stamp
-restarted c u k h h′ stamp a e r p x m q = restart-as (stateOf c u k e r p x m q) h h′ stamp a
+restarted c u k h h′ stamp a ts q = restart-as (stateOf c u k ts q) h h′ stamp a

@@ -7,7 +7,7 @@ use lib.ListN.{length, getD}
 use Rattle.units.specs.Units.{elapsedOf}
 use Rattle.sheet.specs.Settings.{W}
 use Rattle.sheet.specs.declared.Settings.{Settings}
-use Rattle.model.specs.Arrays.{stateOf}
+use Rattle.model.specs.Arrays.{Columns, withPartitionColumn, stateOf}
 use Rattle.model.specs.Step.{saved, charge}
 use Rattle.model.specs.declared.Clock.{Clock}
 
@@ -32,4 +32,5 @@ pub record Payable (c : Settings) (u : List ℕ) (k : Clock) (p h : List ℕ) (s
 -- whatever the other arrays are, the state after is the model's charge of the state before
 abbrev pub Charged : Settings → List ℕ → Clock → List ℕ → List ℕ → List ℕ → Clock → List ℕ → ℕ → Type 0
 Charged c u k p h u′ k′ h′ stamp =
-    (e r n m q : List ℕ) → saved (stateOf c u′ k′ e r p n m q) h′ ≡ charge (saved (stateOf c u k e r p n m q) h) stamp
+    (ts : Columns) (q : List ℕ)
+    → saved (stateOf c u′ k′ (withPartitionColumn ts p) q) h′ ≡ charge (saved (stateOf c u k (withPartitionColumn ts p) q) h) stamp

@@ -14,7 +14,7 @@ use Rattle.refusals.specs.declared.Outcome.the-variants as outcome
 use Rattle.refusals.proofs.Laws.{never-zero}
 use Rattle.sheet.specs.declared.Settings.{Settings}
 use Rattle.model.specs.State.{State}
-use Rattle.model.specs.Arrays.{stateOf}
+use Rattle.model.specs.Arrays.{withFlagColumns, stateOf}
 use Rattle.model.specs.Event.{wellFormed, stampOf, refusedEvent}
 use Rattle.model.specs.declared.Clock.{Clock}
 use Rattle.event.specs.Bytes.{bytesOf, refusedForm, DecodedFrom}
@@ -33,8 +33,8 @@ form-first s b = go (eqb (length b) 12) (wellFormed b) _
 
 module _ (c : Settings) (k : Clock) (e r : List ℕ) (d : Decoded) where
   pub refuses-form : (x : Refusal) → d .outcome ≡ outcome.Refused x → RefusesAll c k e r d (d .outcome)
-  refuses-form x f b w u p n m q =
-      w .refusal ∙ form-first (stateOf c u k e r p n m q) b (rw (sym (w .refusal) ∙ ap outcomeOf f) (never-zero x))
+  refuses-form x f b w u ts q =
+      w .refusal ∙ form-first (stateOf c u k (withFlagColumns ts e r) q) b (rw (sym (w .refusal) ∙ ap outcomeOf f) (never-zero x))
 
   pub refuses-event : d .outcome ≡ outcome.Accepted → (o : Outcome) → Refuses c k e r (bytesOf (d .event)) o → RefusesAll c k e r d o
   refuses-event f o g b w = subst (λ (l : List ℕ). Refuses c k e r l o) (sym (w .bytes (ap outcomeOf f))) g

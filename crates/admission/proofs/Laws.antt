@@ -16,7 +16,7 @@ use Rattle.sheet.specs.Settings.{C}
 use Rattle.sheet.specs.declared.Settings.{Settings}
 use Rattle.model.specs.State.{thread, State, Thread}
 use Rattle.model.specs.Event.{stampOf, known, namesThread, wellFormed, tooLong, wrongThread, wrongPlace, wrongReadiness, refusedEvent}
-use Rattle.model.specs.Arrays.{stateOf}
+use Rattle.model.specs.Arrays.{Columns, withFlagColumns, stateOf}
 use Rattle.model.specs.declared.Clock.{Clock}
 use Rattle.model.proofs.Table.{thread-at}
 use Rattle.event.proofs.kinds.Action
@@ -56,9 +56,12 @@ pub late-other : (k new stamp since tick : ℕ) → eqb k 7 ≡ false → late k
 unfolding late
 late-other k new stamp since tick e = rw e
 
-module _ (c : Settings) (k : Clock) (e r : List ℕ) (x : Event) (form : wellFormed (bytesOf x) ≡ true) (st : x .stamp ≡ stampOf (bytesOf x)) (u p n m q : List ℕ) where
+module _ (c : Settings) (k : Clock) (e r : List ℕ) (x : Event) (form : wellFormed (bytesOf x) ≡ true) (st : x .stamp ≡ stampOf (bytesOf x)) (u : List ℕ) (others : Columns) (q : List ℕ) where
+  abbrev ts : Columns
+  ts = withFlagColumns others e r
+
   abbrev s : State
-  s = stateOf c u k e r p n m q
+  s = stateOf c u k ts q
 
   abbrev b : List ℕ
   b = bytesOf x
@@ -88,7 +91,7 @@ module _ (c : Settings) (k : Clock) (e r : List ℕ) (x : Event) (form : wellFor
     where
       go : Dec (64 ≤ t) → (leb 64 t || f (thread s t .exists)) ≡ (leb 64 t || f (eqb (getD e t 0) 1))
       go (yes h) = rw (le-leb 64 t h)
-      go (no h) = let low : t < 64 = omega arith in ap (λ (y : Thread). leb 64 t || f (y .exists)) (thread-at e r p n m t low)
+      go (no h) = let low : t < 64 = omega arith in ap (λ (y : Thread). leb 64 t || f (y .exists)) (thread-at ts t low)
 
   -- behind a test of the thread's number its flag may be read
   ready-is : (g : Bool → Bool) (f : Bool → ℕ) → cond (leb 64 t || g (eqb (getD e t 0) 1)) 11 (f (thread s t .ready)) ≡ cond (leb 64 t || g (eqb (getD e t 0) 1)) 11 (f (eqb (getD r t 0) 1))
@@ -96,7 +99,7 @@ module _ (c : Settings) (k : Clock) (e r : List ℕ) (x : Event) (form : wellFor
     where
       go : Dec (64 ≤ t) → cond (leb 64 t || g (eqb (getD e t 0) 1)) 11 (f (thread s t .ready)) ≡ cond (leb 64 t || g (eqb (getD e t 0) 1)) 11 (f (eqb (getD r t 0) 1))
       go (yes h) = rw (le-leb 64 t h)
-      go (no h) = let low : t < 64 = omega arith in ap (λ (y : Thread). cond (leb 64 t || g (eqb (getD e t 0) 1)) 11 (f (y .ready))) (thread-at e r p n m t low)
+      go (no h) = let low : t < 64 = omega arith in ap (λ (y : Thread). cond (leb 64 t || g (eqb (getD e t 0) 1)) 11 (f (y .ready))) (thread-at ts t low)
 
   module _ (z : Bool) (d : z ≡ late (kindNumber (x .action)) (x .stamp) (k .stamp) (k .since .0) (C c)) (f : z ≡ false) where
     pub at-create : kindNumber (x .action) ≡ 2 → createRefused e (c .count) t (x .partition) (x .mask) ≡ refusedEvent s b

@@ -10,7 +10,7 @@ use Rattle.refusals.specs.Refusals.{outcomeOf}
 use Rattle.refusals.specs.declared.Outcome.{Outcome}
 use Rattle.sheet.specs.declared.Settings.{Settings}
 use Rattle.model.specs.Event.{wellFormed, stampOf, refusedEvent}
-use Rattle.model.specs.Arrays.{stateOf}
+use Rattle.model.specs.Arrays.{Columns, withFlagColumns, stateOf}
 use Rattle.model.specs.declared.Clock.{Clock}
 use Rattle.event.specs.Bytes.{bytesOf, DecodedFrom}
 use Rattle.event.specs.declared.Decoded.{Decoded}
@@ -37,7 +37,8 @@ otherRefused e t = cond (missingIn e t) 11 0
 
 -- the outcome is the model's, whatever the other arrays are
 abbrev pub Refuses : Settings → Clock → List ℕ → List ℕ → List ℕ → Outcome → Type 0
-Refuses c k e r b o = (u p n m q : List ℕ) → outcomeOf o ≡ refusedEvent (stateOf c u k e r p n m q) b
+Refuses c k e r b o =
+    (u : List ℕ) (ts : Columns) (q : List ℕ) → outcomeOf o ≡ refusedEvent (stateOf c u k (withFlagColumns ts e r) q) b
 
 -- an event that was not refused by its form has that form
 pub record Formed (d : Decoded) : Type 0 where

@@ -18,37 +18,33 @@ use Rattle.model.specs.State.{absent, thread, queueOf, State, Thread}
 use Rattle.model.specs.Event.{kindOf, threadOf, partitionOf, priorityOf, maskOf}
 use Rattle.model.specs.Step.{withThread, withReady, withPriority, created, joins, goes, leaves, act}
 use Rattle.model.specs.Facts.{Settled}
-use Rattle.model.specs.Arrays.{stateOf}
+use Rattle.model.specs.Arrays.{Columns, stateOf}
 use Rattle.model.proofs.Table.{threads-length, thread-at}
+use Rattle.threads.proofs.ActionsLaws as Actions
 use Rattle.event.specs.Kinds.{kindNumber}
 use Rattle.event.specs.declared.kinds.Action.{Action}
 use Rattle.event.specs.declared.kinds.Action.the-variants.{Unknown, Tick, Create, Ready, Block, SetPriority, End, Resume}
 use Rattle.decision.specs.Keeping.{KeptIn, Left, Changed, Lined, Joins}
 use Rattle.decision.proofs.LeadsLaws.{kept-as, left-kept}
 use Rattle.decision.proofs.States.{partition-is, priority-is, mask-is, valid}
-use Rattle.decision.specs.Follow.{Before, stateBefore, Followed}
+use Rattle.decision.specs.Follow.{Before, stateBefore, withLent, Followed}
 
--- what the model's action is for each kind
+-- what the model's action is for each kind, by the thread's number
 module _ (s : State) (b : List ℕ) (t : ℕ) (n : t ≡ threadOf b) where
   act-create : kindOf b ≡ 2 → act s b ≡ withThread s t (created (partitionOf b) (priorityOf b) (maskOf b))
-  unfolding act
-  act-create e = rw (e, n)
+  act-create e = rw n (Actions.act-create s b e)
 
   act-ready : kindOf b ≡ 3 → act s b ≡ joins s t
-  unfolding act
-  act-ready e = rw (e, n)
+  act-ready e = rw n (Actions.act-ready s b e)
 
   act-block : kindOf b ≡ 4 → act s b ≡ goes s t (withReady (thread s t) false)
-  unfolding act
-  act-block e = rw (e, n)
+  act-block e = rw n (Actions.act-block s b e)
 
   act-priority : kindOf b ≡ 5 → act s b ≡ withThread s t (withPriority (thread s t) (priorityOf b))
-  unfolding act
-  act-priority e = rw (e, n)
+  act-priority e = rw n (Actions.act-priority s b e)
 
   act-end : kindOf b ≡ 6 → act s b ≡ goes s t absent
-  unfolding act
-  act-end e = rw (e, n)
+  act-end e = rw n (Actions.act-end s b e)
 
 act-tick : (s : State) (b : List ℕ) → kindOf b ≡ 1 → act s b ≡ s
 unfolding act
@@ -76,29 +72,32 @@ module _ (core : ℕ) (r ps ns ms q : List ℕ) (queued : ℕ) (tops firsts : Li
   abbrev line : List ℕ
   line = take queued q
 
-  -- the state after, as far as its threads go
+  -- the threads after, and the state, as far as they go
+  abbrev ts : Columns
+  ts = withLent (h .others) r ps ns ms
+
   abbrev s : State
-  s = stateOf (o .settings) (o .totals) (o .clock) (h .exists) r ps ns ms q
+  s = stateOf (o .settings) (o .totals) (o .clock) ts q
 
   settled : Settled s₀ (h .history)
   settled = h .settled
 
   -- a thread's three numbers are those of before
   abbrev Same : ℕ → Type 0
-  Same u = (getD ps u 0 ≡ getD (o .partitions) u 0) × (getD ns u 0 ≡ getD (o .priorities) u 0) × (getD ms u 0 ≡ getD (o .masks) u 0)
+  Same u = (getD ps u 0 ≡ getD (o .threads .partitions) u 0) × (getD ns u 0 ≡ getD (o .threads .priorities) u 0) × (getD ms u 0 ≡ getD (o .threads .masks) u 0)
 
   now-in : (u : ℕ) (x : Thread) → thread s u ≡ x → (getD ps u 0 ≡ x .partition) × (getD ns u 0 ≡ x .priority) × (getD ms u 0 ≡ x .mask)
   now-in u x e = (
-    sym (partition-is (o .settings) (o .totals) (o .clock) (h .exists) r ps ns ms q (h .still) u) ∙ ap (λ (y : Thread). y .partition) e,
-    sym (priority-is (o .settings) (o .totals) (o .clock) (h .exists) r ps ns ms q (h .still) u) ∙ ap (λ (y : Thread). y .priority) e,
-    sym (mask-is (o .settings) (o .totals) (o .clock) (h .exists) r ps ns ms q (h .still) u) ∙ ap (λ (y : Thread). y .mask) e,
+    sym (partition-is (o .settings) (o .totals) (o .clock) ts q (h .still) u) ∙ ap (λ (y : Thread). y .partition) e,
+    sym (priority-is (o .settings) (o .totals) (o .clock) ts q (h .still) u) ∙ ap (λ (y : Thread). y .priority) e,
+    sym (mask-is (o .settings) (o .totals) (o .clock) ts q (h .still) u) ∙ ap (λ (y : Thread). y .mask) e,
   )
 
-  was-in : (u : ℕ) → (thread s₀ u .partition ≡ getD (o .partitions) u 0) × (thread s₀ u .priority ≡ getD (o .priorities) u 0) × (thread s₀ u .mask ≡ getD (o .masks) u 0)
+  was-in : (u : ℕ) → (thread s₀ u .partition ≡ getD (o .threads .partitions) u 0) × (thread s₀ u .priority ≡ getD (o .threads .priorities) u 0) × (thread s₀ u .mask ≡ getD (o .threads .masks) u 0)
   was-in u = (
-    partition-is (o .settings) (o .totals) (o .clock) (o .exists) (o .ready) (o .partitions) (o .priorities) (o .masks) (o .queue) (h .sizes) u,
-    priority-is (o .settings) (o .totals) (o .clock) (o .exists) (o .ready) (o .partitions) (o .priorities) (o .masks) (o .queue) (h .sizes) u,
-    mask-is (o .settings) (o .totals) (o .clock) (o .exists) (o .ready) (o .partitions) (o .priorities) (o .masks) (o .queue) (h .sizes) u,
+    partition-is (o .settings) (o .totals) (o .clock) (o .threads) (o .queue) (h .sizes) u,
+    priority-is (o .settings) (o .totals) (o .clock) (o .threads) (o .queue) (h .sizes) u,
+    mask-is (o .settings) (o .totals) (o .clock) (o .threads) (o .queue) (h .sizes) u,
   )
 
   same-as : (u : ℕ) → thread s u ≡ thread s₀ u → Same u
@@ -113,15 +112,15 @@ module _ (core : ℕ) (r ps ns ms q : List ℕ) (queued : ℕ) (tops firsts : Li
 
     here : t < 64 → thread s t ≡ x
     here b = ap (λ (l : List Thread). getD l t absent) (h .threads ∙ stored)
-        ∙ getD-set-same (s₀ .threads) t x absent (omega (arith, b, threads-length (o .exists) (o .ready) (o .partitions) (o .priorities) (o .masks)))
+        ∙ getD-set-same (s₀ .threads) t x absent (omega (arith, b, threads-length (o .threads)))
 
   inside : 2 ≤ kindNumber action → kindNumber action ≤ 6 → t < 64
   inside lo hi = rw (h .named) (h .names .thread-inside (rw (h .kind) lo) (rw (h .kind) hi))
 
   -- a queued thread's partition was a partition's number
-  was-valid : (u : ℕ) → member u line₀ ≡ true → getD (o .partitions) u 0 < 16
+  was-valid : (u : ℕ) → member u line₀ ≡ true → getD (o .threads .partitions) u 0 < 16
   was-valid u m =
-      let b = valid (o .settings) (o .totals) (o .clock) (o .exists) (o .ready) (o .partitions) (o .priorities) (o .masks) (o .queue) (h .sizes) (h .history) settled u m in
+      let b = valid (o .settings) (o .totals) (o .clock) (o .threads) (o .queue) (h .sizes) (h .history) settled u m in
       omega (arith, b, settled .limits .count-high)
 
   walkable : ((u : ℕ) → member u line ≡ true → (u < 64) × (getD ps u 0 < 16)) → Lined ps q queued core
@@ -138,7 +137,7 @@ module _ (core : ℕ) (r ps ns ms q : List ℕ) (queued : ℕ) (tops firsts : Li
 
   -- ---- the thread exists, and its partition is a partition's number
 
-  home-in : 3 ≤ kindNumber action → kindNumber action ≤ 6 → getD (o .partitions) t 0 < 16
+  home-in : 3 ≤ kindNumber action → kindNumber action ≤ 6 → getD (o .threads .partitions) t 0 < 16
   home-in lo hi =
       let exists = h .names .exists (rw (h .kind) lo) (rw (h .kind) hi) in
       let b = inside (omega (arith, lo)) hi in
@@ -169,7 +168,7 @@ module _ (core : ℕ) (r ps ns ms q : List ℕ) (queued : ℕ) (tops firsts : Li
         let same : (u : ℕ) → member u line₀ ≡ true → Same u = λ u m. at u (ℕ-discrete u t) b in
         let e : line₀ ++ (t ∷ []) ≡ line = sym (h .line ∙ ap queueOf does-ready ∙ take-append-seam (line₀ ++ (t ∷ [])) _) in
         subst (λ (l : List ℕ). KeptIn core ps ns ms l tops′ firsts′ set′) e
-        (j line₀ (kept-as core ps ns ms (o .partitions) (o .priorities) (o .masks) line₀ tops firsts set₀ same (h .kept)))
+        (j line₀ (kept-as core ps ns ms (o .threads .partitions) (o .threads .priorities) (o .threads .masks) line₀ tops firsts set₀ same (h .kept)))
       where
         at : (u : ℕ) → Dec (u ≡ t) → t < 64 → Same u
         at u (yes e) b =
@@ -196,7 +195,7 @@ module _ (core : ℕ) (r ps ns ms q : List ℕ) (queued : ℕ) (tops firsts : Li
           walkable (λ u m. fits u (subst (λ (l : List ℕ). member u l ≡ true) (sym gone-line) m)),
           subst (λ (l : List ℕ). Left core ps ns ms l tops firsts set₀ p t) gone-line
               (subst (λ (j : ℕ). Left core ps ns ms (leaves line₀ t) tops firsts set₀ j t) (sym (h .home))
-              (left-kept core ps ns ms (o .partitions) (o .priorities) (o .masks) t (others x stored) line₀ tops firsts set₀ low (h .kept))),
+              (left-kept core ps ns ms (o .threads .partitions) (o .threads .priorities) (o .threads .masks) t (others x stored) line₀ tops firsts set₀ low (h .kept))),
         )
       where
         fits : (u : ℕ) → member u (leaves line₀ t) ≡ true → (u < 64) × (getD ps u 0 < 16)
@@ -222,7 +221,7 @@ module _ (core : ℕ) (r ps ns ms q : List ℕ) (queued : ℕ) (tops firsts : Li
   elsewhere : (x : Thread) → act s₀ (h .bytes) ≡ withThread s₀ t x → member t line₀ ≡ false → KeptIn core ps ns ms line tops firsts set₀
   elsewhere x does n =
       subst (λ (l : List ℕ). KeptIn core ps ns ms l tops firsts set₀) (sym (h .line ∙ ap queueOf does))
-      (kept-as core ps ns ms (o .partitions) (o .priorities) (o .masks) line₀ tops firsts set₀
+      (kept-as core ps ns ms (o .threads .partitions) (o .threads .priorities) (o .threads .masks) line₀ tops firsts set₀
       (λ u m. others x (ap (λ (y : State). y .threads) does) u (λ e. clash m (subst (λ (v : ℕ). member v line₀ ≡ false) (sym e) n))) (h .kept))
 
   pub create-kept : action ≡ Create → KeptIn core ps ns ms line tops firsts set₀
@@ -238,7 +237,7 @@ module _ (core : ℕ) (r ps ns ms q : List ℕ) (queued : ℕ) (tops firsts : Li
   pub none-kept : act s₀ (h .bytes) ≡ s₀ → KeptIn core ps ns ms line tops firsts set₀
   none-kept does =
       subst (λ (l : List ℕ). KeptIn core ps ns ms l tops firsts set₀) (sym (h .line ∙ ap queueOf does))
-      (kept-as core ps ns ms (o .partitions) (o .priorities) (o .masks) line₀ tops firsts set₀
+      (kept-as core ps ns ms (o .threads .partitions) (o .threads .priorities) (o .threads .masks) line₀ tops firsts set₀
       (λ u m. same-as u (ap (λ (l : List Thread). getD l u absent) (h .threads ∙ ap (λ (y : State). y .threads) does))) (h .kept))
 
   pub tick-kept : action ≡ Tick → KeptIn core ps ns ms line tops firsts set₀
@@ -273,7 +272,7 @@ module _ (core : ℕ) (r ps ns ms q : List ℕ) (queued : ℕ) (tops firsts : Li
 
     -- the flag says whether it is queued
     flag-is : eqb (getD r t 0) 1 ≡ member t line₀
-    flag-is = sym (ap (λ (y : Thread). y .ready) (thread-at (h .exists) r ps ns ms t set-inside)) ∙ ap (λ (y : Thread). y .ready) own ∙ settled .queue .ready t set-inside
+    flag-is = sym (ap (λ (y : Thread). y .ready) (thread-at ts t set-inside)) ∙ ap (λ (y : Thread). y .ready) own ∙ settled .queue .ready t set-inside
 
     pub set-outside : getD r t 0 ≢ 1 → KeptIn core ps ns ms line tops firsts set₀
     set-outside n = elsewhere new does-set (sym flag-is ∙ ne-eqb (getD r t 0) 1 n)
@@ -282,28 +281,28 @@ module _ (core : ℕ) (r ps ns ms q : List ℕ) (queued : ℕ) (tops firsts : Li
     others-set = others new (ap (λ (y : State). y .threads) does-set)
 
     -- its partition and its mask stay
-    placed : (u : ℕ) → (getD ps u 0 ≡ getD (o .partitions) u 0) × (getD ms u 0 ≡ getD (o .masks) u 0)
+    placed : (u : ℕ) → (getD ps u 0 ≡ getD (o .threads .partitions) u 0) × (getD ms u 0 ≡ getD (o .threads .masks) u 0)
     placed u = at (ℕ-discrete u t)
       where
-        at : Dec (u ≡ t) → (getD ps u 0 ≡ getD (o .partitions) u 0) × (getD ms u 0 ≡ getD (o .masks) u 0)
+        at : Dec (u ≡ t) → (getD ps u 0 ≡ getD (o .threads .partitions) u 0) × (getD ms u 0 ≡ getD (o .threads .masks) u 0)
         at (yes e) =
             let (a, b, c) = now-in t new own in
             let (x, y, z) = was-in t in
-            subst (λ (v : ℕ). (getD ps v 0 ≡ getD (o .partitions) v 0) × (getD ms v 0 ≡ getD (o .masks) v 0)) (sym e) (a ∙ x, c ∙ z)
+            subst (λ (v : ℕ). (getD ps v 0 ≡ getD (o .threads .partitions) v 0) × (getD ms v 0 ≡ getD (o .threads .masks) v 0)) (sym e) (a ∙ x, c ∙ z)
         at (no n) = let (a, b, c) = others-set u n in (a, c)
 
     pub set-asks : getD r t 0 ≡ 1 → (t < 64) × Lined ps q queued core × Changed core ps ns ms line tops firsts set₀ t
     set-asks e =
         let queued-was : member t line₀ ≡ true = sym flag-is ∙ eq-eqb (getD r t 0) 1 e in
-        let old-kept = kept-as core ps (o .priorities) ms (o .partitions) (o .priorities) (o .masks) line₀ tops firsts set₀ (λ u m. (placed u .0, refl, placed u .1)) (h .kept) in (
+        let old-kept = kept-as core ps (o .threads .priorities) ms (o .threads .partitions) (o .threads .priorities) (o .threads .masks) line₀ tops firsts set₀ (λ u m. (placed u .0, refl, placed u .1)) (h .kept) in (
           set-inside,
           walkable (λ u m. fits u (subst (λ (l : List ℕ). member u l ≡ true) same-line m)),
           record {
             queued = ap (member t) same-line ∙ queued-was;
             partition = rw (placed t .0) (was-valid t queued-was);
-            old = o .priorities;
+            old = o .threads .priorities;
             others = λ u n. others-set u n .1;
-            kept = subst (λ (l : List ℕ). KeptIn core ps (o .priorities) ms l tops firsts set₀) (sym same-line) old-kept;
+            kept = subst (λ (l : List ℕ). KeptIn core ps (o .threads .priorities) ms l tops firsts set₀) (sym same-line) old-kept;
           },
         )
       where

@@ -16,16 +16,25 @@ use Rattle.sheet.specs.declared.Settings.{Settings}
 use Rattle.model.specs.State.{absent, allows, thread, State, Thread, mayRun}
 use Rattle.model.specs.Policy.{candidates, competing, topPriority, chosen}
 use Rattle.model.specs.Facts.{Settled}
-use Rattle.model.specs.Arrays.{threadIn, threadsIn, stateOf, Regular}
+use Rattle.model.specs.Arrays.{Columns, threadIn, threadsIn, stateOf, Regular}
 use Rattle.model.specs.declared.Clock.{Clock}
 use Rattle.model.proofs.Table.{threads-length, thread-at}
 use Rattle.accounts.specs.Kept.{Led, level}
 use Rattle.decision.specs.Leads.{topOf, leadOf, anyOf, levelOf, numbers, runnable}
 use Rattle.decision.specs.Keeping.{KeptIn, Lined}
 
-module _ (c : Settings) (u : List ℕ) (k : Clock) (e r ps ns ms q : List ℕ) (sized : Regular e r ps ns ms) where
+module _ (c : Settings) (u : List ℕ) (k : Clock) (ts : Columns) (q : List ℕ) (regular : Regular ts) where
+  abbrev ps : List ℕ
+  ps = ts .partitions
+
+  abbrev ns : List ℕ
+  ns = ts .priorities
+
+  abbrev ms : List ℕ
+  ms = ts .masks
+
   abbrev s : State
-  s = stateOf c u k e r ps ns ms q
+  s = stateOf c u k ts q
 
   abbrev line : List ℕ
   line = take (k .queued) q
@@ -34,23 +43,23 @@ module _ (c : Settings) (u : List ℕ) (k : Clock) (e r ps ns ms q : List ℕ) (
   past : (l : List ℕ) (t : ℕ) → length l ≡ 64 → 64 ≤ t → getD l t 0 ≡ 0
   past l t h b = List·getD-eq-default l 0 (omega (arith, h, b))
 
-  whole : (t : ℕ) (A : Type 0) (f : Thread → A) (d : A) → f absent ≡ d → (64 ≤ t → f (threadIn e r ps ns ms t) ≡ d) → f (thread s t) ≡ f (threadIn e r ps ns ms t)
+  whole : (t : ℕ) (A : Type 0) (f : Thread → A) (d : A) → f absent ≡ d → (64 ≤ t → f (threadIn ts t) ≡ d) → f (thread s t) ≡ f (threadIn ts t)
   whole t A f d x y = go (decLt t 64)
     where
-      go : Dec (t < 64) → f (thread s t) ≡ f (threadIn e r ps ns ms t)
-      go (yes b) = ap f (thread-at e r ps ns ms t b)
+      go : Dec (t < 64) → f (thread s t) ≡ f (threadIn ts t)
+      go (yes b) = ap f (thread-at ts t b)
       go (no b) =
           let out : 64 ≤ t = omega arith in
-          ap f (List·getD-eq-default (threadsIn e r ps ns ms) absent (omega (arith, threads-length e r ps ns ms, out))) ∙ x ∙ sym (y out)
+          ap f (List·getD-eq-default (threadsIn ts) absent (omega (arith, threads-length ts, out))) ∙ x ∙ sym (y out)
 
   pub partition-is : (t : ℕ) → thread s t .partition ≡ getD ps t 0
-  partition-is t = whole t ℕ (λ x. x .partition) 0 refl (past ps t (sized .partitions))
+  partition-is t = whole t ℕ (λ x. x .partition) 0 refl (past ps t (regular .sized .partitions))
 
   pub priority-is : (t : ℕ) → thread s t .priority ≡ getD ns t 0
-  priority-is t = whole t ℕ (λ x. x .priority) 0 refl (past ns t (sized .priorities))
+  priority-is t = whole t ℕ (λ x. x .priority) 0 refl (past ns t (regular .sized .priorities))
 
   pub mask-is : (t : ℕ) → thread s t .mask ≡ getD ms t 0
-  mask-is t = whole t ℕ (λ x. x .mask) 0 refl (past ms t (sized .masks))
+  mask-is t = whole t ℕ (λ x. x .mask) 0 refl (past ms t (regular .sized .masks))
 
   candidates-are : (p : ℕ) → candidates s p ≡ runnable (c .core) ps ms p line
   unfolding candidates runnable

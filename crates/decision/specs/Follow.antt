@@ -9,7 +9,7 @@ use Rattle.model.specs.State.{queueOf, State}
 use Rattle.model.specs.Event.{kindOf, threadOf}
 use Rattle.model.specs.Step.{act}
 use Rattle.model.specs.Facts.{Settled, Named}
-use Rattle.model.specs.Arrays.{Regular, threadsIn, stateOf}
+use Rattle.model.specs.Arrays.{Columns, columns, Regular, threadsIn, stateOf}
 use Rattle.model.specs.declared.Clock.{Clock}
 use Rattle.event.specs.Kinds.{kindNumber}
 use Rattle.event.specs.declared.kinds.Action.{Action}
@@ -20,15 +20,15 @@ pub record Before : Type 0 where
   pub settings : Settings
   pub totals : List ℕ
   pub clock : Clock
-  pub exists : List ℕ
-  pub ready : List ℕ
-  pub partitions : List ℕ
-  pub priorities : List ℕ
-  pub masks : List ℕ
+  pub threads : Columns
   pub queue : List ℕ
 
 abbrev pub stateBefore : Before → State
-stateBefore b = stateOf (b .settings) (b .totals) (b .clock) (b .exists) (b .ready) (b .partitions) (b .priorities) (b .masks) (b .queue)
+stateBefore b = stateOf (b .settings) (b .totals) (b .clock) (b .threads) (b .queue)
+
+-- the threads' columns, of which four are lent
+abbrev pub withLent : Columns → List ℕ → List ℕ → List ℕ → List ℕ → Columns
+withLent ts r p n m = columns (ts .exists) r p n m
 
 -- the arrays hold the threads and the queue that the model's action gives from a settled state before, of whose threads the event names one that it
 -- may name, and of which the leads are kept; t is that thread, and p was its partition
@@ -36,20 +36,20 @@ pub record Followed (core : ℕ) (ready partitions priorities masks queue : List
   pub before : Before
   pub history : List ℕ
   pub bytes : List ℕ
-  pub exists : List ℕ
+  pub others : Columns
   pub settled : Settled (stateBefore before) history
   pub names : Named (stateBefore before) bytes
-  pub sizes : Regular (before .exists) (before .ready) (before .partitions) (before .priorities) (before .masks)
-  pub still : Regular exists ready partitions priorities masks
+  pub sizes : Regular (before .threads)
+  pub still : Regular (withLent others ready partitions priorities masks)
   pub full : length queue ≡ 64
   pub few : queued ≤ 64
   pub kind : kindOf bytes ≡ kindNumber action
   pub named : t ≡ threadOf bytes
-  pub home : p ≡ getD (before .partitions) t 0
+  pub home : p ≡ getD (before .threads .partitions) t 0
   pub on : core ≡ before .settings .core
-  pub threads : threadsIn exists ready partitions priorities masks ≡ act (stateBefore before) bytes .threads
+  pub threads : threadsIn (withLent others ready partitions priorities masks) ≡ act (stateBefore before) bytes .threads
   pub line : take queued queue ≡ queueOf (act (stateBefore before) bytes)
-  pub kept : KeptIn core (before .partitions) (before .priorities) (before .masks) (queueOf (stateBefore before)) tops firsts set
+  pub kept : KeptIn core (before .threads .partitions) (before .threads .priorities) (before .threads .masks) (queueOf (stateBefore before)) tops firsts set
 
 -- what is left of it where the event set a priority: by the thread's flag, the leads are right, or they were with its old priority
 pub record FollowedPriority (core : ℕ) (ready partitions priorities masks queue : List ℕ) (queued : ℕ) (tops firsts : List ℕ) (set t : ℕ) : Type 0 where

@@ -6,7 +6,7 @@ use lib.ListN.{length, take, drop}
 use Rattle.sheet.specs.Settings.{Limits}
 use Rattle.sheet.specs.declared.Settings.{Settings}
 use Rattle.model.specs.State.{State}
-use Rattle.model.specs.Arrays.{Regular, stateOf}
+use Rattle.model.specs.Arrays.{Columns, Regular, stateOf}
 use Rattle.model.specs.Doors.{takenBy}
 use Rattle.model.specs.Event.{refusedState}
 use Rattle.model.specs.Facts.{Settled}
@@ -20,43 +20,33 @@ use Rattle.model.proofs.Accepted.{fit-of}
 use Rattle.model.proofs.Flags.{accepted}
 use Rattle.decision.specs.Keeping.{Lined}
 use Rattle.decision.proofs.States.{lined}
-use Rattle.decision.specs.Upkeep.{Held}
+use Rattle.decision.specs.Upkeep.{HeldBy}
 use Rattle.decision.specs.declared.kept.Sets.{Sets}
 use Rattle.scheduler.specs.Stepping.{Whole, StepAnswered, Still}
 use Rattle.scheduler.proofs.SchedulerLaws.{taken-arrays}
 use Rattle.doors.specs.Inner.{Room, Entered, Finished}
 
-module _ (c : Settings) (u : List ℕ) (k : Clock) (e r p n m q h : List ℕ) (room : Room c u e r p n m q) (z : refusedArrays c u k e r p n m q h ≡ 0) where
+module _ (c : Settings) (u : List ℕ) (k : Clock) (ts : Columns) (q h : List ℕ) (room : Room c u ts q) (z : refusedArrays c u k ts q h ≡ 0) where
   abbrev s : State
-  s = stateOf c u k e r p n m q
+  s = stateOf c u k ts q
 
   abbrev v : Saved
   v = saved s h
 
-  pub regular : Regular e r p n m
-  regular =
-      let (x, y, _) = accepted c u k e r p n m q h z in
-      record {
-        exists = room .sizes .exists;
-        ready = room .sizes .ready;
-        partitions = room .sizes .partitions;
-        priorities = room .sizes .priorities;
-        masks = room .sizes .masks;
-        exists-plain = x;
-        ready-plain = y;
-      }
+  pub regular : Regular ts
+  regular = record { sized = room .sizes; flags = accepted c u k ts q h z .0 }
 
   taken : refusedState s h ≡ 0
-  taken = accepted c u k e r p n m q h z .2
+  taken = accepted c u k ts q h z .1
 
   pub settled : Settled s h
   settled = fit-of s h taken .sound .settled
 
-  pub begins : Limits c × Lined p q (k .queued) (c .core)
-  begins = (settled .limits, lined c u k e r p n m q regular h settled (room .full))
+  pub begins : Limits c × Lined (ts .partitions) q (k .queued) (c .core)
+  begins = (settled .limits, lined c u k ts q regular h settled (room .full))
 
-  pub whole : (budgets tops firsts : List ℕ) (sets : Sets) → Held c u p n m (take (k .queued) q) budgets tops firsts sets
-      → Whole c u k e r p n m q h budgets tops firsts sets
+  pub whole : (budgets tops firsts : List ℕ) (sets : Sets) → HeldBy c u k ts q budgets tops firsts sets
+      → Whole c u k ts q h budgets tops firsts sets
   whole budgets tops firsts sets held = record {
     sixteen = room .sixteen;
     shares = room .shares;
@@ -66,21 +56,21 @@ module _ (c : Settings) (u : List ℕ) (k : Clock) (e r p n m q h : List ℕ) (r
     held = held;
   }
 
-  module _ (u′ : List ℕ) (k′ : Clock) (e′ r′ p′ n′ m′ q′ h′ : List ℕ) where
+  module _ (u′ : List ℕ) (k′ : Clock) (ts′ : Columns) (q′ h′ : List ℕ) where
     pub entered : (b : List ℕ) (w : Verdict) (budgets tops firsts : List ℕ) (sets : Sets)
-        → StepAnswered c v b w u′ k′ e′ r′ p′ n′ m′ q′ h′ budgets tops firsts sets → Still v b u k e r p n m q h u′ k′ e′ r′ p′ n′ m′ q′ h′
-        → Entered c u k e r p n m q h b w u′ k′ e′ r′ p′ n′ m′ q′ h′
+        → StepAnswered c v b w u′ k′ ts′ q′ h′ budgets tops firsts sets → Still v b u k ts q h u′ k′ ts′ q′ h′
+        → Entered c u k ts q h b w u′ k′ ts′ q′ h′
     entered b w budgets tops firsts sets a still = record {
       line = a .line;
       after = a .after;
-      taken = taken-arrays c u′ k′ e′ r′ p′ n′ m′ q′ h′ budgets tops firsts sets (a .whole);
+      taken = taken-arrays c u′ k′ ts′ q′ h′ budgets tops firsts sets (a .whole);
       still = still;
     }
 
     pub finished : (events lines : List ℕ) (i : ℕ) → i ≡ min (eventCount events) (length lines / 12) → (lines′ : List ℕ)
-        → saved (stateOf c u′ k′ e′ r′ p′ n′ m′ q′) h′ ≡ after v (eventsIn events i)
+        → saved (stateOf c u′ k′ ts′ q′) h′ ≡ after v (eventsIn events i)
         → lines′ ≡ linesOf (run v (eventsIn events i)) ++ drop (12 * i) lines
-        → refusedArrays c u′ k′ e′ r′ p′ n′ m′ q′ h′ ≡ 0
-        → Finished c u k e r p n m q h events lines u′ k′ e′ r′ p′ n′ m′ q′ h′ lines′
+        → refusedArrays c u′ k′ ts′ q′ h′ ≡ 0
+        → Finished c u k ts q h events lines u′ k′ ts′ q′ h′ lines′
     unfolding takenBy
     finished events lines i f lines′ a l t = record { after = rw (← f) a; written = rw (← f) l; taken = t }

@@ -10,7 +10,7 @@ use borrow.Author.Tests.{lt-ltb, le-ltb}
 use Rattle.lists.specs.Lists.{below}
 use Rattle.lists.proofs.All.{below-all}
 use Rattle.lists.proofs.Tables.{table-length, table-at}
-use Rattle.lists.proofs.Tests.{clash}
+use Rattle.lists.proofs.Tests.{clash, and}
 use Rattle.refusals.specs.Refusals.{numberOf, outcomeOf}
 use Rattle.refusals.specs.declared.Outcome.{Outcome}
 use Rattle.refusals.specs.declared.Outcome.the-variants as outcome
@@ -24,7 +24,7 @@ use Rattle.sheet.proofs.Sheets.{sheet-within, sheet-clear}
 use Rattle.sheet.specs.Sheet as Sheet
 use Rattle.sheet.specs.declared.Settings.{Settings}
 use Rattle.model.specs.State.{cycles, absent}
-use Rattle.model.specs.Arrays.{threadIn, threadsIn, plain}
+use Rattle.model.specs.Arrays.{Columns, columns, threadIn, threadsIn, plain}
 use Rattle.model.specs.Doors.{refusedStart}
 use Rattle.model.specs.Event.{refusedState}
 use Rattle.model.specs.Lent.{Lent, lent, settingsFrom, lentSettings, lentClock, stateIn, savedIn}
@@ -55,15 +55,18 @@ none zero i = refl
 none (suc n) zero = refl
 none (suc n) (suc i) = none n i
 
-pub none-plain : plain zeros ≡ true
+abbrev empty : Columns
+empty = columns zeros zeros zeros zeros zeros
+
+none-plain : plain zeros ≡ true
 unfolding plain
 none-plain = below-all (λ t. leb (getD zeros t 0) 1) 64 (λ i b. rw (none 64 i) refl)
 
-no-threads : threadsIn zeros zeros zeros zeros zeros ≡ replicate 64 absent
+no-threads : threadsIn empty ≡ replicate 64 absent
 unfolding threadsIn
 no-threads =
     ext-getD absent _ (replicate 64 absent) (table-length _ 64 ∙ sym (length-replicate 64 absent)) (λ i b.
-    let low : i < 64 = rw (table-length (threadIn zeros zeros zeros zeros zeros) 64) at b in
+    let low : i < 64 = rw (table-length (threadIn empty) 64) at b in
     table-at _ 64 i absent low ∙ rw (none 64 i) (sym (getD-replicate 64 i absent absent low)))
 
 no-cycles : map cycles (replicate 16 0) ≡ replicate 16 (cycles 0)
@@ -72,7 +75,7 @@ no-cycles = refl
 -- ---- the state
 
 module _ (c : Settings) (h h′ a b : List ℕ) (e : settingsFrom a b ≡ c) (f : h′ ≡ replicate (c .count * W c) 0 ++ drop (c .count * W c) h) where
-  pub begun : Fresh c h (lent a b (replicate 16 0) (0 ∷ 0 ∷ 0 ∷ 0 ∷ 255 ∷ []) (replicate 64 0) (replicate 64 0) (replicate 64 0) (replicate 64 0) (replicate 64 0) (replicate 64 0) h′)
+  pub begun : Fresh c h (lent a b (replicate 16 0) (0 ∷ 0 ∷ 0 ∷ 0 ∷ 255 ∷ []) empty zeros h′)
   begun = record {
     after = λ i. record {
       state = record {
@@ -88,8 +91,7 @@ module _ (c : Settings) (h h′ a b : List ℕ) (e : settingsFrom a b ≡ c) (f 
       };
       history = f i;
     };
-    exists = none-plain;
-    ready = none-plain;
+    flags = and none-plain none-plain;
   }
 
 -- ---- the door
@@ -151,6 +153,6 @@ module _ (x : Lent) (sheet : List ℕ) where
         record {
           refusal = ap outcomeOf f ∙ sym z;
           after = λ _. same;
-          taken = λ _. as-state (lentSettings y) (y .used) (lentClock y) (y .exists) (y .ready) (y .partitions) (y .priorities) (y .masks) (y .queue) (y .history) (d .exists) (d .ready) ∙ fine;
+          taken = λ _. as-state (lentSettings y) (y .used) (lentClock y) (y .threads) (y .queue) (y .history) (d .flags) ∙ fine;
           still = λ n. absurd (n (ap outcomeOf f));
         }

@@ -1,5 +1,6 @@
 // The run door: many events at once. The state is tested once, for all of them.
 ghost use mathlib.Core.Path.{_≡_};
+ghost use Rattle.model.specs.Arrays.{columns};
 ghost use Rattle.refusals.specs.Refusals.{outcomeOf};
 ghost use Rattle.model.specs.Lent.{lent, refusedArrays};
 ghost use Rattle.doors.specs.Doors.{Ran};
@@ -26,11 +27,11 @@ fn enter(
     events: &[u8],
     out: &mut [u8],
 ) -> Clock
-    requires { ⌜ Room settings (now used) (now exists) (now ready) (now partitions) (now priorities) (now masks) (now queue) × (refusedArrays settings (now used) c (now exists) (now ready) (now partitions) (now priorities) (now masks) (now queue) (now history) ≡ 0) ⌝ }
+    requires { ⌜ Room settings (now used) (columns (now exists) (now ready) (now partitions) (now priorities) (now masks)) (now queue) × (refusedArrays settings (now used) c (columns (now exists) (now ready) (now partitions) (now priorities) (now masks)) (now queue) (now history) ≡ 0) ⌝ }
     ensures { λ r. ⌜
-        Finished settings (now (used .entry)) c (now (exists .entry)) (now (ready .entry)) (now (partitions .entry)) (now (priorities .entry)) (now (masks .entry)) (now (queue .entry)) (now (history .entry))
+        Finished settings (now (used .entry)) c (columns (now (exists .entry)) (now (ready .entry)) (now (partitions .entry)) (now (priorities .entry)) (now (masks .entry))) (now (queue .entry)) (now (history .entry))
         (now (events .entry)) (now (out .entry))
-        (now (used .exit)) r (now (exists .exit)) (now (ready .exit)) (now (partitions .exit)) (now (priorities .exit)) (now (masks .exit)) (now (queue .exit)) (now (history .exit)) (now (out .exit))
+        (now (used .exit)) r (columns (now (exists .exit)) (now (ready .exit)) (now (partitions .exit)) (now (priorities .exit)) (now (masks .exit))) (now (queue .exit)) (now (history .exit)) (now (out .exit))
         ⌝ }
 {
     let records = (events.len() + 11) / 12;
@@ -89,9 +90,9 @@ pub fn run(
     out: &mut [u8],
 ) -> Outcome
     ensures { λ r. ⌜
-        Ran (lent (now (settings .entry)) (now (shares .entry)) (now (used .entry)) (now (clock .entry)) (now (exists .entry)) (now (ready .entry)) (now (partitions .entry)) (now (priorities .entry)) (now (masks .entry)) (now (queue .entry)) (now (history .entry)))
+        Ran (lent (now (settings .entry)) (now (shares .entry)) (now (used .entry)) (now (clock .entry)) (columns (now (exists .entry)) (now (ready .entry)) (now (partitions .entry)) (now (priorities .entry)) (now (masks .entry))) (now (queue .entry)) (now (history .entry)))
         (now (events .entry)) (now (out .entry)) (outcomeOf r)
-        (lent (now (settings .entry)) (now (shares .entry)) (now (used .exit)) (now (clock .exit)) (now (exists .exit)) (now (ready .exit)) (now (partitions .exit)) (now (priorities .exit)) (now (masks .exit)) (now (queue .exit)) (now (history .exit)))
+        (lent (now (settings .entry)) (now (shares .entry)) (now (used .exit)) (now (clock .exit)) (columns (now (exists .exit)) (now (ready .exit)) (now (partitions .exit)) (now (priorities .exit)) (now (masks .exit))) (now (queue .exit)) (now (history .exit)))
         (now (out .exit))
         ⌝ }
 {

@@ -1,6 +1,7 @@
 // The two doors that only look: the decision for a state, and what remains of one partition's budget. Both take any state and any history,
 // refuse what is not sound, and write nothing.
 ghost use mathlib.Core.Path.{_≡_};
+ghost use Rattle.model.specs.Arrays.{columns};
 ghost use Rattle.model.specs.Answers.{lineOf, remainderOf};
 ghost use Rattle.model.specs.Doors as Doors;
 ghost use Rattle.model.specs.Lent.{lent};
@@ -27,7 +28,7 @@ pub fn decision(
     queue: &[u8; 64],
     history: &[u32],
 ) -> Verdict
-    ensures { λ r. ⌜ lineOf r ≡ Doors.decision (lent (now (settings .entry)) (now (shares .entry)) (now (used .entry)) (now (clock .entry)) (now (exists .entry)) (now (ready .entry)) (now (partitions .entry)) (now (priorities .entry)) (now (masks .entry)) (now (queue .entry)) (now (history .entry))) ⌝ }
+    ensures { λ r. ⌜ lineOf r ≡ Doors.decision (lent (now (settings .entry)) (now (shares .entry)) (now (used .entry)) (now (clock .entry)) (columns (now (exists .entry)) (now (ready .entry)) (now (partitions .entry)) (now (priorities .entry)) (now (masks .entry))) (now (queue .entry)) (now (history .entry))) ⌝ }
 {
     let s = words::settings_in(settings, shares);
     let c = words::clock_in(clock);
@@ -83,7 +84,7 @@ pub fn remaining(
     history: &[u32],
     partition: u32,
 ) -> Balance
-    ensures { λ r. ⌜ remainderOf r ≡ Doors.remainder (lent (now (settings .entry)) (now (shares .entry)) (now (used .entry)) (now (clock .entry)) (now (exists .entry)) (now (ready .entry)) (now (partitions .entry)) (now (priorities .entry)) (now (masks .entry)) (now (queue .entry)) (now (history .entry))) partition ⌝ }
+    ensures { λ r. ⌜ remainderOf r ≡ Doors.remainder (lent (now (settings .entry)) (now (shares .entry)) (now (used .entry)) (now (clock .entry)) (columns (now (exists .entry)) (now (ready .entry)) (now (partitions .entry)) (now (priorities .entry)) (now (masks .entry))) (now (queue .entry)) (now (history .entry))) partition ⌝ }
 {
     let s = words::settings_in(settings, shares);
     let c = words::clock_in(clock);

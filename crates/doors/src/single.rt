@@ -1,5 +1,6 @@
 // The event door: one event of any bytes, on any state.
 ghost use mathlib.Core.Path.{_≡_};
+ghost use Rattle.model.specs.Arrays.{columns};
 ghost use Rattle.model.specs.Answers.{lineOf};
 ghost use Rattle.model.specs.Lent.{lent, refusedArrays};
 ghost use Rattle.doors.specs.Doors.{Answered};
@@ -32,11 +33,11 @@ fn enter(
     c: Clock,
     event: &[u8],
 ) -> Reply
-    requires { ⌜ Room settings (now used) (now exists) (now ready) (now partitions) (now priorities) (now masks) (now queue) × (refusedArrays settings (now used) c (now exists) (now ready) (now partitions) (now priorities) (now masks) (now queue) (now history) ≡ 0) ⌝ }
+    requires { ⌜ Room settings (now used) (columns (now exists) (now ready) (now partitions) (now priorities) (now masks)) (now queue) × (refusedArrays settings (now used) c (columns (now exists) (now ready) (now partitions) (now priorities) (now masks)) (now queue) (now history) ≡ 0) ⌝ }
     ensures { λ r. ⌜
-        Entered settings (now (used .entry)) c (now (exists .entry)) (now (ready .entry)) (now (partitions .entry)) (now (priorities .entry)) (now (masks .entry)) (now (queue .entry)) (now (history .entry))
+        Entered settings (now (used .entry)) c (columns (now (exists .entry)) (now (ready .entry)) (now (partitions .entry)) (now (priorities .entry)) (now (masks .entry))) (now (queue .entry)) (now (history .entry))
         (now (event .entry)) (r .verdict)
-        (now (used .exit)) (r .clock) (now (exists .exit)) (now (ready .exit)) (now (partitions .exit)) (now (priorities .exit)) (now (masks .exit)) (now (queue .exit)) (now (history .exit))
+        (now (used .exit)) (r .clock) (columns (now (exists .exit)) (now (ready .exit)) (now (partitions .exit)) (now (priorities .exit)) (now (masks .exit))) (now (queue .exit)) (now (history .exit))
         ⌝ }
 {
     let mut budgets = [0u32; 16];
@@ -96,9 +97,9 @@ pub fn event(
     event: &[u8],
 ) -> Verdict
     ensures { λ r. ⌜
-        Answered (lent (now (settings .entry)) (now (shares .entry)) (now (used .entry)) (now (clock .entry)) (now (exists .entry)) (now (ready .entry)) (now (partitions .entry)) (now (priorities .entry)) (now (masks .entry)) (now (queue .entry)) (now (history .entry)))
+        Answered (lent (now (settings .entry)) (now (shares .entry)) (now (used .entry)) (now (clock .entry)) (columns (now (exists .entry)) (now (ready .entry)) (now (partitions .entry)) (now (priorities .entry)) (now (masks .entry))) (now (queue .entry)) (now (history .entry)))
         (now (event .entry)) (lineOf r)
-        (lent (now (settings .entry)) (now (shares .entry)) (now (used .exit)) (now (clock .exit)) (now (exists .exit)) (now (ready .exit)) (now (partitions .exit)) (now (priorities .exit)) (now (masks .exit)) (now (queue .exit)) (now (history .exit)))
+        (lent (now (settings .entry)) (now (shares .entry)) (now (used .exit)) (now (clock .exit)) (columns (now (exists .exit)) (now (ready .exit)) (now (partitions .exit)) (now (priorities .exit)) (now (masks .exit))) (now (queue .exit)) (now (history .exit)))
         ⌝ }
 {
     let s = words::settings_in(settings, shares);

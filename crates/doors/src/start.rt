@@ -1,5 +1,6 @@
 // The start door: a fresh state from a share sheet's bytes.
 ghost use mathlib.Core.Path.{_≡_};
+ghost use Rattle.model.specs.Arrays.{columns};
 ghost use Prim.Native.Nat.{_*_, _≤_};
 ghost use lib.ListN.{length};
 ghost use Rattle.sheet.specs.Settings.{W};
@@ -29,7 +30,7 @@ fn begin(
     history: &mut [u32],
 )
     requires { ⌜ (length (s .shares) ≡ 16) × (s .count * W s ≤ length (now history)) ⌝ }
-    ensures { λ _. ⌜ Fresh s (now (history .entry)) (lent (now (settings .exit)) (now (shares .exit)) (now (used .exit)) (now (clock .exit)) (now (exists .exit)) (now (ready .exit)) (now (partitions .exit)) (now (priorities .exit)) (now (masks .exit)) (now (queue .exit)) (now (history .exit))) ⌝ }
+    ensures { λ _. ⌜ Fresh s (now (history .entry)) (lent (now (settings .exit)) (now (shares .exit)) (now (used .exit)) (now (clock .exit)) (columns (now (exists .exit)) (now (ready .exit)) (now (partitions .exit)) (now (priorities .exit)) (now (masks .exit))) (now (queue .exit)) (now (history .exit))) ⌝ }
 {
     let window = s.window;
     history::clear_rows(history, window, s.count);
@@ -60,9 +61,9 @@ pub fn start(
     history: &mut [u32],
 ) -> Outcome
     ensures { λ r. ⌜
-        Begun (lent (now (settings .entry)) (now (shares .entry)) (now (used .entry)) (now (clock .entry)) (now (exists .entry)) (now (ready .entry)) (now (partitions .entry)) (now (priorities .entry)) (now (masks .entry)) (now (queue .entry)) (now (history .entry)))
+        Begun (lent (now (settings .entry)) (now (shares .entry)) (now (used .entry)) (now (clock .entry)) (columns (now (exists .entry)) (now (ready .entry)) (now (partitions .entry)) (now (priorities .entry)) (now (masks .entry))) (now (queue .entry)) (now (history .entry)))
         (now (sheet .entry)) (outcomeOf r)
-        (lent (now (settings .exit)) (now (shares .exit)) (now (used .exit)) (now (clock .exit)) (now (exists .exit)) (now (ready .exit)) (now (partitions .exit)) (now (priorities .exit)) (now (masks .exit)) (now (queue .exit)) (now (history .exit)))
+        (lent (now (settings .exit)) (now (shares .exit)) (now (used .exit)) (now (clock .exit)) (columns (now (exists .exit)) (now (ready .exit)) (now (partitions .exit)) (now (priorities .exit)) (now (masks .exit))) (now (queue .exit)) (now (history .exit)))
         ⌝ }
 {
     let reading = sheet::read_sheet(sheet);

@@ -1,7 +1,7 @@
 // Settings and clock, from the lent numbers and back; and the lengths of what is lent.
 ghost use mathlib.Core.Path.{_≡_};
 ghost use lib.ListN.{length};
-ghost use Rattle.model.specs.Arrays.{Sized};
+ghost use Rattle.model.specs.Arrays.{columns, Sized};
 ghost use Rattle.model.specs.Lent.{sharesFrom, settingsFrom, clockFrom};
 ghost use Rattle.doors.specs.Inner.{ClockStored};
 use model::Clock;
@@ -136,7 +136,7 @@ pub fn sized(
 )
     ensures { λ _. ⌜
         (length (now (used .entry)) ≡ 16) × (length (now (queue .entry)) ≡ 64)
-        × Sized (now (exists .entry)) (now (ready .entry)) (now (partitions .entry)) (now (priorities .entry)) (now (masks .entry))
+        × Sized (columns (now (exists .entry)) (now (ready .entry)) (now (partitions .entry)) (now (priorities .entry)) (now (masks .entry)))
         ⌝ }
 {
     let u = *used;

@@ -5,6 +5,7 @@ use mathlib.Core.Bool.{Bool, true, false}
 use Prim.Native.Nat.{ℕ, _≤_, _<_}
 use mathlib.Core.List.{List, map}
 use native.Mathlib.Decide.{ℕ-discrete}
+use native.Mathlib.Omega.{arith}
 use lib.Dec.{eqb, leb}
 use borrow.Author.Tests.{le-leb}
 use lib.ListN.{length, getD, set, length-set}
@@ -14,7 +15,7 @@ use Rattle.lists.proofs.Tables.{table-length, table-at}
 use Rattle.lists.proofs.All.{all-below, below-all}
 use Rattle.model.specs.State.{absent, Thread}
 use Rattle.model.specs.Step.{withReady, withPriority}
-use Rattle.model.specs.Arrays.{flag, threadIn, threadsIn, plain, Regular}
+use Rattle.model.specs.Arrays.{flag, Columns, columns, withReadyColumn, withPriorityColumn, threadIn, threadsIn, plain, Sized, Regular}
 
 -- a table with another value at one place
 table-set : (f g : ℕ → Thread) (t : ℕ) (x : Thread) → t < 64 → g t ≡ x → ((u : ℕ) → u ≢ t → g u ≡ f u) → map g (below 64) ≡ set (map f (below 64)) t x
@@ -32,18 +33,22 @@ pub flag-on : (b : Bool) → eqb (flag b) 1 ≡ b
 flag-on true = refl
 flag-on false = refl
 
+pub flag-low : (b : Bool) → flag b ≤ 1
+flag-low true = omega arith
+flag-low false = omega arith
+
 thread-eq : {e r : Bool} {p n m : ℕ} {e′ r′ : Bool} {p′ n′ m′ : ℕ} → e ≡ e′ → r ≡ r′ → p ≡ p′ → n ≡ n′ → m ≡ m′
     → _≡_ {A = Thread} (record { exists = e; ready = r; partition = p; priority = n; mask = m }) (record { exists = e′; ready = r′; partition = p′; priority = n′; mask = m′ })
 thread-eq a b c d e = λ i. record { exists = a i; ready = b i; partition = c i; priority = d i; mask = e i }
 
-module _ (e r p n m : List ℕ) where
-  pub threads-length : length (threadsIn e r p n m) ≡ 64
+module _ (ts : Columns) where
+  pub threads-length : length (threadsIn ts) ≡ 64
   unfolding threadsIn
-  threads-length = table-length (threadIn e r p n m) 64
+  threads-length = table-length (threadIn ts) 64
 
-  pub thread-at : (t : ℕ) → t < 64 → getD (threadsIn e r p n m) t absent ≡ threadIn e r p n m t
+  pub thread-at : (t : ℕ) → t < 64 → getD (threadsIn ts) t absent ≡ threadIn ts t
   unfolding threadsIn
-  thread-at t h = table-at (threadIn e r p n m) 64 t absent h
+  thread-at t h = table-at (threadIn ts) 64 t absent h
 
 -- a flag stored among flags of 0 and 1
 pub plain-put : (l : List ℕ) (t v : ℕ) → length l ≡ 64 → t < 64 → v ≤ 1 → plain l ≡ true → plain (set l t v) ≡ true
@@ -54,36 +59,44 @@ plain-put l t v k h low e = below-all (λ i. leb (getD (set l t v) i 0) 1) 64 (�
     at i b (yes z) = rw (z, getD-set-same l t v 0 (rw k h)) (le-leb v 1 low)
     at i b (no z) = rw (getD-set-other l t i v 0 z) (all-below (λ j. leb (getD l j 0) 1) 64 e i b)
 
-module _ (e r p n m : List ℕ) (s : Regular e r p n m) (t : ℕ) (h : t < 64) where
+-- ---- a store to the columns is a store to the records
+
+-- a whole record in thread t's place
+abbrev pub putRecord : Columns → ℕ → Thread → Columns
+putRecord ts t x =
+    columns (set (ts .exists) t (flag (x .exists))) (set (ts .ready) t (flag (x .ready))) (set (ts .partitions) t (x .partition))
+    (set (ts .priorities) t (x .priority)) (set (ts .masks) t (x .mask))
+
+module _ (ts : Columns) (s : Regular ts) (t : ℕ) (h : t < 64) where
   here : (l : List ℕ) (v : ℕ) → length l ≡ 64 → getD (set l t v) t 0 ≡ v
   here l v k = getD-set-same l t v 0 (rw k h)
 
-  -- a whole record
-  pub thread-put : (x : Thread)
-      → threadsIn (set e t (flag (x .exists))) (set r t (flag (x .ready))) (set p t (x .partition)) (set n t (x .priority)) (set m t (x .mask))
-      ≡ set (threadsIn e r p n m) t x
+  pub thread-put : (x : Thread) → threadsIn (putRecord ts t x) ≡ set (threadsIn ts) t x
   unfolding threadsIn
   thread-put x =
-      table-set (threadIn e r p n m) _ t x h
-      (thread-eq (ap (λ (v : ℕ). eqb v 1) (here e (flag (x .exists)) (s .exists)) ∙ flag-on (x .exists))
-      (ap (λ (v : ℕ). eqb v 1) (here r (flag (x .ready)) (s .ready)) ∙ flag-on (x .ready))
-      (here p (x .partition) (s .partitions)) (here n (x .priority) (s .priorities)) (here m (x .mask) (s .masks)))
-      (λ u k. thread-eq (ap (λ (v : ℕ). eqb v 1) (getD-set-other e t u (flag (x .exists)) 0 k)) (ap (λ (v : ℕ). eqb v 1) (getD-set-other r t u (flag (x .ready)) 0 k))
-      (getD-set-other p t u (x .partition) 0 k) (getD-set-other n t u (x .priority) 0 k) (getD-set-other m t u (x .mask) 0 k))
+      let z : Sized ts = s .sized in
+      table-set (threadIn ts) _ t x h
+      (thread-eq (ap (λ (v : ℕ). eqb v 1) (here (ts .exists) (flag (x .exists)) (z .exists)) ∙ flag-on (x .exists))
+      (ap (λ (v : ℕ). eqb v 1) (here (ts .ready) (flag (x .ready)) (z .ready)) ∙ flag-on (x .ready))
+      (here (ts .partitions) (x .partition) (z .partitions)) (here (ts .priorities) (x .priority) (z .priorities)) (here (ts .masks) (x .mask) (z .masks)))
+      (λ u k. thread-eq (ap (λ (v : ℕ). eqb v 1) (getD-set-other (ts .exists) t u (flag (x .exists)) 0 k))
+      (ap (λ (v : ℕ). eqb v 1) (getD-set-other (ts .ready) t u (flag (x .ready)) 0 k))
+      (getD-set-other (ts .partitions) t u (x .partition) 0 k) (getD-set-other (ts .priorities) t u (x .priority) 0 k)
+      (getD-set-other (ts .masks) t u (x .mask) 0 k))
 
   -- one number of it
-  pub ready-put : (b : Bool) → threadsIn e (set r t (flag b)) p n m ≡ set (threadsIn e r p n m) t (withReady (getD (threadsIn e r p n m) t absent) b)
+  pub ready-put : (b : Bool) → threadsIn (withReadyColumn ts (set (ts .ready) t (flag b))) ≡ set (threadsIn ts) t (withReady (getD (threadsIn ts) t absent) b)
   unfolding threadsIn
   ready-put b =
-      rw (table-at (threadIn e r p n m) 64 t absent h) (
-      table-set (threadIn e r p n m) _ t _ h
-      (thread-eq refl (ap (λ (v : ℕ). eqb v 1) (here r (flag b) (s .ready)) ∙ flag-on b) refl refl refl)
-      (λ u k. thread-eq refl (ap (λ (v : ℕ). eqb v 1) (getD-set-other r t u (flag b) 0 k)) refl refl refl))
+      rw (table-at (threadIn ts) 64 t absent h) (
+      table-set (threadIn ts) _ t _ h
+      (thread-eq refl (ap (λ (v : ℕ). eqb v 1) (here (ts .ready) (flag b) (s .sized .ready)) ∙ flag-on b) refl refl refl)
+      (λ u k. thread-eq refl (ap (λ (v : ℕ). eqb v 1) (getD-set-other (ts .ready) t u (flag b) 0 k)) refl refl refl))
 
-  pub priority-put : (v : ℕ) → threadsIn e r p (set n t v) m ≡ set (threadsIn e r p n m) t (withPriority (getD (threadsIn e r p n m) t absent) v)
+  pub priority-put : (v : ℕ) → threadsIn (withPriorityColumn ts (set (ts .priorities) t v)) ≡ set (threadsIn ts) t (withPriority (getD (threadsIn ts) t absent) v)
   unfolding threadsIn
   priority-put v =
-      rw (table-at (threadIn e r p n m) 64 t absent h) (
-      table-set (threadIn e r p n m) _ t _ h
-      (thread-eq refl refl refl (here n v (s .priorities)) refl)
-      (λ u k. thread-eq refl refl refl (getD-set-other n t u v 0 k) refl))
+      rw (table-at (threadIn ts) 64 t absent h) (
+      table-set (threadIn ts) _ t _ h
+      (thread-eq refl refl refl (here (ts .priorities) v (s .sized .priorities)) refl)
+      (λ u k. thread-eq refl refl refl (getD-set-other (ts .priorities) t u v 0 k) refl))

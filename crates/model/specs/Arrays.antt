@@ -1,7 +1,7 @@
 -- The arrays of numbers that the program works on, and the state that they stand for.
 use Prim.Native.Nat.{ℕ}
 use mathlib.Core.Path.{_≡_}
-use mathlib.Core.Bool.{Bool, true, cond}
+use mathlib.Core.Bool.{Bool, true, cond, _&&_}
 use mathlib.Core.List.{List, map}
 use lib.ListN.{length, getD}
 use lib.Dec.{eqb, leb}
@@ -14,56 +14,79 @@ use Rattle.model.specs.declared.Clock.{Clock}
 abbrev pub flag : Bool → ℕ
 flag b = cond b 1 0
 
--- a thread's record, of which each of the five arrays has one number
-abbrev pub threadIn : List ℕ → List ℕ → List ℕ → List ℕ → List ℕ → ℕ → Thread
-threadIn e r p n m t =
+-- the threads' records as they are stored: a column for each field, in which thread t has place t
+pub record Columns : Type 0 where
+  pub exists : List ℕ
+  pub ready : List ℕ
+  pub partitions : List ℕ
+  pub priorities : List ℕ
+  pub masks : List ℕ
+
+abbrev pub columns : List ℕ → List ℕ → List ℕ → List ℕ → List ℕ → Columns
+columns e r p n m = record { exists = e; ready = r; partitions = p; priorities = n; masks = m }
+
+-- the same with another column, or two
+abbrev pub withFlagColumns : Columns → List ℕ → List ℕ → Columns
+withFlagColumns ts e r = columns e r (ts .partitions) (ts .priorities) (ts .masks)
+
+abbrev pub withReadyColumn : Columns → List ℕ → Columns
+withReadyColumn ts r = withFlagColumns ts (ts .exists) r
+
+abbrev pub withPartitionColumn : Columns → List ℕ → Columns
+withPartitionColumn ts p = columns (ts .exists) (ts .ready) p (ts .priorities) (ts .masks)
+
+abbrev pub withPriorityColumn : Columns → List ℕ → Columns
+withPriorityColumn ts n = columns (ts .exists) (ts .ready) (ts .partitions) n (ts .masks)
+
+-- thread t's record
+abbrev pub threadIn : Columns → ℕ → Thread
+threadIn ts t =
     record {
-      exists = eqb (getD e t 0) 1;
-      ready = eqb (getD r t 0) 1;
-      partition = getD p t 0;
-      priority = getD n t 0;
-      mask = getD m t 0;
+      exists = eqb (getD (ts .exists) t 0) 1;
+      ready = eqb (getD (ts .ready) t 0) 1;
+      partition = getD (ts .partitions) t 0;
+      priority = getD (ts .priorities) t 0;
+      mask = getD (ts .masks) t 0;
     }
 
-unfoldable pub threadsIn : List ℕ → List ℕ → List ℕ → List ℕ → List ℕ → List Thread
-threadsIn e r p n m = map (threadIn e r p n m) (below 64)
+unfoldable pub threadsIn : Columns → List Thread
+threadsIn ts = map (threadIn ts) (below 64)
 
--- the state that settings, a clock and seven arrays stand for
-abbrev pub stateOf : Settings → List ℕ → Clock → List ℕ → List ℕ → List ℕ → List ℕ → List ℕ → List ℕ → State
-stateOf c u k e r p n m q =
+-- the state that settings c, totals u, a clock k, the threads' columns and a queue q stand for
+abbrev pub stateOf : Settings → List ℕ → Clock → Columns → List ℕ → State
+stateOf c u k ts q =
     record {
       settings = c;
       used = map cycles u;
       stamp = k .stamp;
       slot = k .slot;
       since = k .since;
-      threads = threadsIn e r p n m;
+      threads = threadsIn ts;
       queue = q;
       queued = k .queued;
       running = k .running;
     }
 
--- every flag is 0 or 1
+-- every flag of a column is 0 or 1
 unfoldable pub plain : List ℕ → Bool
 plain l = all (λ t. leb (getD l t 0) 1) (below 64)
 
--- each array of threads has its 64 numbers
-pub record Sized (e r p n m : List ℕ) : Type 0 where
-  pub exists : length e ≡ 64
-  pub ready : length r ≡ 64
-  pub partitions : length p ≡ 64
-  pub priorities : length n ≡ 64
-  pub masks : length m ≡ 64
+-- each column has its 64 numbers
+pub record Sized (ts : Columns) : Type 0 where
+  pub exists : length (ts .exists) ≡ 64
+  pub ready : length (ts .ready) ≡ 64
+  pub partitions : length (ts .partitions) ≡ 64
+  pub priorities : length (ts .priorities) ≡ 64
+  pub masks : length (ts .masks) ≡ 64
 
--- and each flag is 0 or 1
-pub record Regular (e r p n m : List ℕ) : Type 0 where
-  pub exists : length e ≡ 64
-  pub ready : length r ≡ 64
-  pub partitions : length p ≡ 64
-  pub priorities : length n ≡ 64
-  pub masks : length m ≡ 64
-  pub exists-plain : plain e ≡ true
-  pub ready-plain : plain r ≡ true
+-- every flag of the threads is 0 or 1
+abbrev pub flagsFit : Columns → Bool
+flagsFit ts = plain (ts .exists) && plain (ts .ready)
+
+-- both
+pub record Regular (ts : Columns) : Type 0 where
+  pub sized : Sized ts
+  pub flags : flagsFit ts ≡ true
 
 -- what the actions of events work on: the threads and the ready queue
 pub record Tables : Type 0 where
@@ -71,8 +94,8 @@ pub record Tables : Type 0 where
   pub queue : List ℕ
   pub queued : ℕ
 
-abbrev pub tablesIn : List ℕ → List ℕ → List ℕ → List ℕ → List ℕ → List ℕ → ℕ → Tables
-tablesIn e r p n m q k = record { threads = threadsIn e r p n m; queue = q; queued = k }
+abbrev pub tablesIn : Columns → List ℕ → ℕ → Tables
+tablesIn ts q k = record { threads = threadsIn ts; queue = q; queued = k }
 
 abbrev pub withTables : State → Tables → State
 withTables s x =

@@ -9,7 +9,7 @@ use Rattle.units.specs.declared.Percent.{Percent}
 use Rattle.sheet.specs.Settings.{W, withinLimits}
 use Rattle.sheet.specs.declared.Settings.{Settings}
 use Rattle.model.specs.State.{State}
-use Rattle.model.specs.Arrays.{stateOf, plain}
+use Rattle.model.specs.Arrays.{Columns, stateOf, flagsFit}
 use Rattle.model.specs.Sound.{sound}
 use Rattle.model.specs.Step.{Saved, saved}
 use Rattle.model.specs.declared.Clock.{Clock}
@@ -21,29 +21,12 @@ pub record Lent : Type 0 where
   pub used : List ℕ
   -- the stamp, the slot, the time since tick, how many threads are queued, the running one
   pub clock : List ℕ
-  pub exists : List ℕ
-  pub ready : List ℕ
-  pub partitions : List ℕ
-  pub priorities : List ℕ
-  pub masks : List ℕ
+  pub threads : Columns
   pub queue : List ℕ
   pub history : List ℕ
 
-abbrev pub lent : List ℕ → List ℕ → List ℕ → List ℕ → List ℕ → List ℕ → List ℕ → List ℕ → List ℕ → List ℕ → List ℕ → Lent
-lent a b u k e r p n m q h =
-    record {
-      settings = a;
-      shares = b;
-      used = u;
-      clock = k;
-      exists = e;
-      ready = r;
-      partitions = p;
-      priorities = n;
-      masks = m;
-      queue = q;
-      history = h;
-    }
+abbrev pub lent : List ℕ → List ℕ → List ℕ → List ℕ → Columns → List ℕ → List ℕ → Lent
+lent a b u k ts q h = record { settings = a; shares = b; used = u; clock = k; threads = ts; queue = q; history = h }
 
 -- ---- the state that they stand for
 
@@ -78,23 +61,21 @@ abbrev pub lentClock : Lent → Clock
 lentClock x = clockFrom (x .clock)
 
 abbrev pub stateIn : Lent → State
-stateIn x =
-    stateOf (lentSettings x) (x .used) (lentClock x) (x .exists) (x .ready) (x .partitions) (x .priorities) (x .masks) (x .queue)
+stateIn x = stateOf (lentSettings x) (x .used) (lentClock x) (x .threads) (x .queue)
 
 abbrev pub savedIn : Lent → Saved
 savedIn x = saved (stateIn x) (x .history)
 
 -- ---- when they are refused
 
--- the number by which settings, totals u, a clock k, five arrays of threads, the queue q and the history h are refused, or 0: 8 for settings
+-- the number by which settings c, totals u, a clock k, the threads' columns, the queue q and the history h are refused, or 0: 8 for settings
 -- outside their limits, "because the buffer length wanted is worked out from them"; 7 for a history too short; 8 for a flag above 1, and where
 -- the state that all this stands for is not sound
-unfoldable pub refusedArrays : Settings → List ℕ → Clock → List ℕ → List ℕ → List ℕ → List ℕ → List ℕ → List ℕ → List ℕ → ℕ
-refusedArrays c u k e r p n m q h =
+unfoldable pub refusedArrays : Settings → List ℕ → Clock → Columns → List ℕ → List ℕ → ℕ
+refusedArrays c u k ts q h =
     cond (not (withinLimits c)) 8
     (cond (ltb (length h) (c .count * W c)) 7
-    (cond (not (plain e && plain r && sound (stateOf c u k e r p n m q) h)) 8 0))
+    (cond (not (flagsFit ts && sound (stateOf c u k ts q) h)) 8 0))
 
 abbrev pub refusedIn : Lent → ℕ
-refusedIn x =
-    refusedArrays (lentSettings x) (x .used) (lentClock x) (x .exists) (x .ready) (x .partitions) (x .priorities) (x .masks) (x .queue) (x .history)
+refusedIn x = refusedArrays (lentSettings x) (x .used) (lentClock x) (x .threads) (x .queue) (x .history)

@@ -3,6 +3,7 @@
 // 32 bits: so C passes them alike on every processor. Each contract is that of the function behind it.
 // `run` has a crate of its own (saplingloft_run), so that the step is compiled into its loop; one archive holds both.
 ghost use mathlib.Core.Path.{_≡_};
+ghost use Rattle.model.specs.Arrays.{columns};
 ghost use Rattle.units.specs.Units.{Narrow};
 ghost use Rattle.model.specs.Answers.{remainderOf};
 ghost use Rattle.model.specs.Doors as Doors;
@@ -32,9 +33,9 @@ pub extern "C" fn saplingloft_lent_start(
     history: &mut [u32],
 ) -> u32
     ensures { λ r. ⌜
-        Begun (lent (now (settings .entry)) (now (shares .entry)) (now (used .entry)) (now (clock .entry)) (now (exists .entry)) (now (ready .entry)) (now (partitions .entry)) (now (priorities .entry)) (now (masks .entry)) (now (queue .entry)) (now (history .entry)))
+        Begun (lent (now (settings .entry)) (now (shares .entry)) (now (used .entry)) (now (clock .entry)) (columns (now (exists .entry)) (now (ready .entry)) (now (partitions .entry)) (now (priorities .entry)) (now (masks .entry))) (now (queue .entry)) (now (history .entry)))
         (now (sheet .entry)) r
-        (lent (now (settings .exit)) (now (shares .exit)) (now (used .exit)) (now (clock .exit)) (now (exists .exit)) (now (ready .exit)) (now (partitions .exit)) (now (priorities .exit)) (now (masks .exit)) (now (queue .exit)) (now (history .exit)))
+        (lent (now (settings .exit)) (now (shares .exit)) (now (used .exit)) (now (clock .exit)) (columns (now (exists .exit)) (now (ready .exit)) (now (partitions .exit)) (now (priorities .exit)) (now (masks .exit))) (now (queue .exit)) (now (history .exit)))
         ⌝ }
 {
     let outcome = doors::start::start(
@@ -71,9 +72,9 @@ pub extern "C" fn saplingloft_lent_event(
     event: &[u8],
 ) -> u32
     ensures { λ r. ⌜
-        Answered (lent (now (settings .entry)) (now (shares .entry)) (now (used .entry)) (now (clock .entry)) (now (exists .entry)) (now (ready .entry)) (now (partitions .entry)) (now (priorities .entry)) (now (masks .entry)) (now (queue .entry)) (now (history .entry)))
+        Answered (lent (now (settings .entry)) (now (shares .entry)) (now (used .entry)) (now (clock .entry)) (columns (now (exists .entry)) (now (ready .entry)) (now (partitions .entry)) (now (priorities .entry)) (now (masks .entry))) (now (queue .entry)) (now (history .entry)))
         (now (event .entry)) (unpacked r)
-        (lent (now (settings .entry)) (now (shares .entry)) (now (used .exit)) (now (clock .exit)) (now (exists .exit)) (now (ready .exit)) (now (partitions .exit)) (now (priorities .exit)) (now (masks .exit)) (now (queue .exit)) (now (history .exit)))
+        (lent (now (settings .entry)) (now (shares .entry)) (now (used .exit)) (now (clock .exit)) (columns (now (exists .exit)) (now (ready .exit)) (now (partitions .exit)) (now (priorities .exit)) (now (masks .exit))) (now (queue .exit)) (now (history .exit)))
         ⌝ }
 {
     let verdict = doors::single::event(
@@ -108,7 +109,7 @@ pub extern "C" fn saplingloft_lent_decision(
     queue: &[u8; 64],
     history: &[u32],
 ) -> u32
-    ensures { λ r. ⌜ unpacked r ≡ Doors.decision (lent (now (settings .entry)) (now (shares .entry)) (now (used .entry)) (now (clock .entry)) (now (exists .entry)) (now (ready .entry)) (now (partitions .entry)) (now (priorities .entry)) (now (masks .entry)) (now (queue .entry)) (now (history .entry))) ⌝ }
+    ensures { λ r. ⌜ unpacked r ≡ Doors.decision (lent (now (settings .entry)) (now (shares .entry)) (now (used .entry)) (now (clock .entry)) (columns (now (exists .entry)) (now (ready .entry)) (now (partitions .entry)) (now (priorities .entry)) (now (masks .entry))) (now (queue .entry)) (now (history .entry))) ⌝ }
 {
     let verdict = doors::queries::decision(
         settings,
@@ -160,7 +161,7 @@ pub extern "C" fn saplingloft_lent_remaining(
 ) -> u32
     ensures { λ r. ⌜
         RemainderTold
-        (Doors.remainder (lent (now (settings .entry)) (now (shares .entry)) (now (used .entry)) (now (clock .entry)) (now (exists .entry)) (now (ready .entry)) (now (partitions .entry)) (now (priorities .entry)) (now (masks .entry)) (now (queue .entry)) (now (history .entry))) partition)
+        (Doors.remainder (lent (now (settings .entry)) (now (shares .entry)) (now (used .entry)) (now (clock .entry)) (columns (now (exists .entry)) (now (ready .entry)) (now (partitions .entry)) (now (priorities .entry)) (now (masks .entry))) (now (queue .entry)) (now (history .entry))) partition)
         (now (remaining .entry)) r (now (remaining .exit))
         ⌝ }
 {

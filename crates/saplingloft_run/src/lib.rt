@@ -1,5 +1,6 @@
 // The C interface, a run of events: the door, lent the caller's struct where it lies (see the crate saplingloft).
 ghost use Rattle.model.specs.Lent.{lent};
+ghost use Rattle.model.specs.Arrays.{columns};
 ghost use Rattle.doors.specs.Doors.{Ran};
 use lines::numbers;
 
@@ -21,9 +22,9 @@ pub extern "C" fn saplingloft_lent_run(
     lines: &mut [u8],
 ) -> u32
     ensures { λ r. ⌜
-        Ran (lent (now (settings .entry)) (now (shares .entry)) (now (used .entry)) (now (clock .entry)) (now (exists .entry)) (now (ready .entry)) (now (partitions .entry)) (now (priorities .entry)) (now (masks .entry)) (now (queue .entry)) (now (history .entry)))
+        Ran (lent (now (settings .entry)) (now (shares .entry)) (now (used .entry)) (now (clock .entry)) (columns (now (exists .entry)) (now (ready .entry)) (now (partitions .entry)) (now (priorities .entry)) (now (masks .entry))) (now (queue .entry)) (now (history .entry)))
         (now (events .entry)) (now (lines .entry)) r
-        (lent (now (settings .entry)) (now (shares .entry)) (now (used .exit)) (now (clock .exit)) (now (exists .exit)) (now (ready .exit)) (now (partitions .exit)) (now (priorities .exit)) (now (masks .exit)) (now (queue .exit)) (now (history .exit)))
+        (lent (now (settings .entry)) (now (shares .entry)) (now (used .exit)) (now (clock .exit)) (columns (now (exists .exit)) (now (ready .exit)) (now (partitions .exit)) (now (priorities .exit)) (now (masks .exit))) (now (queue .exit)) (now (history .exit)))
         (now (lines .exit))
         ⌝ }
 {

@@ -25,7 +25,7 @@ use Rattle.model.specs.Event
 use Rattle.model.specs.Event.{kindOf, threadOf, stampOf, known}
 use Rattle.model.specs.Facts.{Settled}
 use Rattle.model.specs.Step.{Saved, saved, billed, charge, moveSlot, restart, act, apply}
-use Rattle.model.specs.Arrays.{Regular, tablesIn, withTables, stateOf}
+use Rattle.model.specs.Arrays.{Columns, Regular, tablesIn, withTables, stateOf}
 use Rattle.model.specs.declared.Clock.{Clock}
 use Rattle.model.proofs.Bounds.{running-inside, charge-fits, total-fits, next-inside}
 use Rattle.model.proofs.Table.{thread-at, threads-length}
@@ -50,7 +50,7 @@ use Rattle.threads.proofs.ActionsLaws.{act-ready, own-kind}
 use Rattle.event.proofs.kinds.Action
 use Rattle.event.proofs.Told.{told-not}
 use Rattle.decision.specs.Keeping.{KeptIn}
-use Rattle.decision.specs.Upkeep.{Held}
+use Rattle.decision.specs.Upkeep.{HeldBy}
 use Rattle.decision.specs.Follow.{Followed}
 use Rattle.decision.specs.declared.kept.Sets.{Sets}
 use Rattle.scheduler.specs.Effects.{Ready, Applied, Ticking, Ticked}
@@ -102,10 +102,13 @@ charge-used-length : (v : Saved) (stamp : ℕ) → length (charge v stamp .state
 unfolding charge
 charge-used-length v stamp = used-length (v .state) (billed (v .state)) (elapsedOf stamp (v .state .stamp))
 
-module _ (c : Settings) (u : List ℕ) (k : Clock) (e r p n m q h budgets tops firsts : List ℕ) (sets : Sets) (x : Event)
-    (g : Ready c u k e r p n m q h budgets tops firsts sets x) where
+module _ (c : Settings) (u : List ℕ) (k : Clock) (ts : Columns) (q h budgets tops firsts : List ℕ) (sets : Sets) (x : Event)
+    (g : Ready c u k ts q h budgets tops firsts sets x) where
+  abbrev p : List ℕ
+  p = ts .partitions
+
   abbrev s : State
-  s = stateOf c u k e r p n m q
+  s = stateOf c u k ts q
 
   abbrev v : Saved
   v = saved s h
@@ -120,7 +123,7 @@ module _ (c : Settings) (u : List ℕ) (k : Clock) (e r p n m q h budgets tops f
   settled = g .accepted .fit .sound .settled
 
   lengths : Lengths s
-  lengths = record { shares = g .shares; used = map-length u ∙ g .sixteen; threads = threads-length e r p n m; queue = g .full }
+  lengths = record { shares = g .shares; used = map-length u ∙ g .sixteen; threads = threads-length ts; queue = g .full }
 
   pub left : Left v b (apply v b)
   left = apply-left v b lengths (g .accepted)
@@ -135,7 +138,7 @@ module _ (c : Settings) (u : List ℕ) (k : Clock) (e r p n m q h budgets tops f
     pays on =
         let room = g .accepted .fit .room in
         let (low, inside) = running-inside s h (g .accepted .fit .sound) on in
-        let who : thread s (k .running) .partition ≡ payerOf k p = ap (λ (t : Thread). t .partition) (thread-at e r p n m (k .running) low) in
+        let who : thread s (k .running) .partition ≡ payerOf k p = ap (λ (t : Thread). t .partition) (thread-at ts (k .running) low) in
         let a : payerOf k p < c .count = subst (λ (i : ℕ). i < c .count) who inside in
         record {
           running = low;
@@ -164,8 +167,8 @@ module _ (c : Settings) (u : List ℕ) (k : Clock) (e r p n m q h budgets tops f
     movable : (u′ : List ℕ) (k′ : Clock) (h′ : List ℕ) → Charged c u k p h u′ k′ h′ (x .stamp)
         → (length u′ ≡ 16) × (k′ .slot .0 < W c) × Slots.Covered u′ h′ (W c) (c .count) (nextOf (k′ .slot .0) (W c))
     movable u′ k′ h′ d =
-        let y : Saved = saved (stateOf c u′ k′ e r p n m q) h′ in
-        let same : y ≡ charge v (x .stamp) = d e r n m q in
+        let y : Saved = saved (stateOf c u′ k′ ts q) h′ in
+        let same : y ≡ charge v (x .stamp) = d ts q in
         let fine : Settled (y .state) (y .history) = subst (λ (z : Saved). Settled (z .state) (z .history)) (sym same) charged in
         let room : wanted (y .state) ≤ length (y .history) = subst (λ (z : Saved). wanted (z .state) ≤ length (z .history)) (sym same) charged-room in
         let wide : length (y .state .used) ≡ 16 = ap (λ (z : Saved). length (z .state .used)) same ∙ charge-used-length v (x .stamp) ∙ lengths .used in
@@ -189,27 +192,27 @@ module _ (c : Settings) (u : List ℕ) (k : Clock) (e r p n m q h budgets tops f
 
   -- what is kept, where threads and queue stay
   stays : (u′ : List ℕ) (k′ : Clock) (set′ : ℕ) → k′ .queued ≡ k .queued → WeighedIn u′ budgets (C c) (c .count) set′
-      → Held c u′ p n m (take (k′ .queued) q) budgets tops firsts (record { paying = sets .paying; competing = sets .competing; solvent = set′ })
+      → HeldBy c u′ k′ ts q budgets tops firsts (record { paying = sets .paying; competing = sets .competing; solvent = set′ })
   stays u′ k′ set′ i w = record {
     priced = g .held .priced;
-    led = subst (λ (j : ℕ). KeptIn (c .core) p n m (take j q) tops firsts (sets .competing)) (sym i) (g .held .led);
+    led = subst (λ (j : ℕ). KeptIn (c .core) p (ts .priorities) (ts .masks) (take j q) tops firsts (sets .competing)) (sym i) (g .held .led);
     weighed = w;
   }
 
   pub ticked : kindOf b ≡ 1 → (u′ : List ℕ) (k′ : Clock) (h′ : List ℕ) (set′ : ℕ) → Ticked c u k p h u′ k′ h′ (x .stamp) → Reweighed u u′ budgets (C c) (sets .solvent) set′
-      → Applied c v u′ k′ e r p n m q h′ budgets tops firsts (record { paying = sets .paying; competing = sets .competing; solvent = set′ }) b
+      → Applied c v u′ k′ ts q h′ budgets tops firsts (record { paying = sets .paying; competing = sets .competing; solvent = set′ }) b
   ticked i u′ k′ h′ set′ d w = record {
-    state = d e r n m q ∙ ap (λ (j : ℕ). moveSlot (charge v j)) (g .stamped) ∙ applied-tick v b i;
+    state = d ts q ∙ ap (λ (j : ℕ). moveSlot (charge v j)) (g .stamped) ∙ applied-tick v b i;
     sizes = g .sizes;
-    held = stays u′ k′ set′ (ap (λ (z : Saved). z .state .queued) (d e r n m q) ∙ move-queued (charge v (x .stamp)) ∙ charge-queued v (x .stamp)) (weighed u′ set′ w);
+    held = stays u′ k′ set′ (ap (λ (z : Saved). z .state .queued) (d ts q) ∙ move-queued (charge v (x .stamp)) ∙ charge-queued v (x .stamp)) (weighed u′ set′ w);
   }
 
   pub resumed : kindOf b ≡ 7 → (u′ : List ℕ) (k′ : Clock) (h′ : List ℕ) (set′ : ℕ) → Restarted c u k h u′ k′ h′ (x .stamp) → WeighedIn u′ budgets (C c) (c .count) set′
-      → Applied c v u′ k′ e r p n m q h′ budgets tops firsts (record { paying = sets .paying; competing = sets .competing; solvent = set′ }) b
+      → Applied c v u′ k′ ts q h′ budgets tops firsts (record { paying = sets .paying; competing = sets .competing; solvent = set′ }) b
   resumed i u′ k′ h′ set′ d w = record {
-    state = d e r p n m q ∙ ap (λ (j : ℕ). restart v j) (g .stamped) ∙ applied-resume v b i;
+    state = d ts q ∙ ap (λ (j : ℕ). restart v j) (g .stamped) ∙ applied-resume v b i;
     sizes = g .sizes;
-    held = stays u′ k′ set′ (ap (λ (z : Saved). z .state .queued) (d e r p n m q) ∙ restart-queued v (x .stamp)) w;
+    held = stays u′ k′ set′ (ap (λ (z : Saved). z .state .queued) (d ts q) ∙ restart-queued v (x .stamp)) w;
   }
 
   pub can-restart : (c .count ≤ 16) × (c .count * W c ≤ length h)
@@ -236,7 +239,7 @@ module _ (c : Settings) (u : List ℕ) (k : Clock) (e r p n m q h budgets tops f
         queue-eq (zeros-after q (k .queued) 64 (g .full) (settled .stored .few) (settled .stored .zeros))
         (sym (length-take-le (k .queued) q (omega (arith, settled .stored .few, g .full))))
 
-    pub able : Able e r p n m q (k .queued) b
+    pub able : Able ts q (k .queued) b
     able =
         record {
           thread-inside = g .accepted .named .thread-inside;
@@ -250,22 +253,22 @@ module _ (c : Settings) (u : List ℕ) (k : Clock) (e r p n m q h budgets tops f
     abbrev withQueued : Clock → ℕ → Clock
     withQueued j i = record { stamp = j .stamp; slot = j .slot; since = j .since; queued = i; running = j .running }
 
-    module _ (u′ : List ℕ) (k′ : Clock) (h′ e′ r′ p′ n′ m′ q′ : List ℕ) (i : ℕ) (d : Charged c u k p h u′ k′ h′ (x .stamp))
-        (a : Acted (tablesIn e r p n m q (k .queued)) (tablesIn e′ r′ p′ n′ m′ q′ i) b) (sized : Regular e′ r′ p′ n′ m′) where
-      worked : saved (stateOf c u′ (withQueued k′ i) e′ r′ p′ n′ m′ q′) h′ ≡ apply v b
+    module _ (u′ : List ℕ) (k′ : Clock) (h′ : List ℕ) (ts′ : Columns) (q′ : List ℕ) (i : ℕ) (d : Charged c u k p h u′ k′ h′ (x .stamp))
+        (a : Acted (tablesIn ts q (k .queued)) (tablesIn ts′ q′ i) b) (sized : Regular ts′) where
+      worked : saved (stateOf c u′ (withQueued k′ i) ts′ q′) h′ ≡ apply v b
       worked =
-          let first = d e r n m q in
-          let y = stateOf c u′ k′ e r p n m q in
+          let first = d ts q in
+          let y = stateOf c u′ k′ ts q in
           let kept : k .queued ≡ k′ .queued = sym (ap (λ (z : Saved). z .state .queued) first ∙ charge-queued v (x .stamp)) in
-          applied-other v b no-resume no-tick (saved y h′) (stateOf c u′ (withQueued k′ i) e′ r′ p′ n′ m′ q′)
-          (first ∙ ap (charge v) (g .stamped)) (a y ∙ ap (λ (j : ℕ). act (withTables y (tablesIn e r p n m q j)) b) kept)
+          applied-other v b no-resume no-tick (saved y h′) (stateOf c u′ (withQueued k′ i) ts′ q′)
+          (first ∙ ap (charge v) (g .stamped)) (a y ∙ ap (λ (j : ℕ). act (withTables y (tablesIn ts q j)) b) kept)
 
-      pub followed : (y : Action) (t home : ℕ) → x .action ≡ y → t ≡ x .thread → home ≡ getD p t 0 → Followed (c .core) r′ p′ n′ m′ q′ i tops firsts (sets .competing) y t home
+      pub followed : (y : Action) (t home : ℕ) → x .action ≡ y → t ≡ x .thread → home ≡ getD p t 0 → Followed (c .core) (ts′ .ready) (ts′ .partitions) (ts′ .priorities) (ts′ .masks) q′ i tops firsts (sets .competing) y t home
       followed y t home is same there = record {
-        before = record { settings = c; totals = u; clock = k; exists = e; ready = r; partitions = p; priorities = n; masks = m; queue = q };
+        before = record { settings = c; totals = u; clock = k; threads = ts; queue = q };
         history = h;
         bytes = b;
-        exists = e′;
+        others = ts′;
         settled = settled;
         names = g .accepted .named;
         sizes = g .sizes;
@@ -281,8 +284,8 @@ module _ (c : Settings) (u : List ℕ) (k : Clock) (e r p n m q h budgets tops f
         kept = g .held .led;
       }
 
-      pub applied : (tops′ firsts′ : List ℕ) (set′ solvent′ : ℕ) → Reweighed u u′ budgets (C c) (sets .solvent) solvent′ → KeptIn (c .core) p′ n′ m′ (take i q′) tops′ firsts′ set′
-          → Applied c v u′ (withQueued k′ i) e′ r′ p′ n′ m′ q′ h′ budgets tops′ firsts′ (record { paying = sets .paying; competing = set′; solvent = solvent′ }) b
+      pub applied : (tops′ firsts′ : List ℕ) (set′ solvent′ : ℕ) → Reweighed u u′ budgets (C c) (sets .solvent) solvent′ → KeptIn (c .core) (ts′ .partitions) (ts′ .priorities) (ts′ .masks) (take i q′) tops′ firsts′ set′
+          → Applied c v u′ (withQueued k′ i) ts′ q′ h′ budgets tops′ firsts′ (record { paying = sets .paying; competing = set′; solvent = solvent′ }) b
       applied tops′ firsts′ set′ solvent′ w l = record {
         state = worked;
         sizes = sized;

@@ -13,7 +13,7 @@ use Rattle.sheet.specs.declared.Settings.{Settings}
 use Rattle.model.specs.Answers.{decidedOf, lineOf, answerLine}
 use Rattle.model.specs.Event.{refusedState, refusedEvent, refused, stampOf}
 use Rattle.model.specs.Facts.{Settled}
-use Rattle.model.specs.Arrays.{Regular, stateOf}
+use Rattle.model.specs.Arrays.{Columns, Regular, stateOf}
 use Rattle.model.specs.Lent.{refusedArrays}
 use Rattle.model.specs.Policy.{decide}
 use Rattle.model.specs.Step.{Saved, saved, withRunning, settle, apply, answer}
@@ -28,7 +28,7 @@ use Rattle.invariants.proofs.Answered.{Good, good-answer}
 use Rattle.accounts.proofs.ChargingLaws.{map-length}
 use Rattle.event.specs.Bytes.{bytesOf}
 use Rattle.event.specs.declared.Event.{Event}
-use Rattle.decision.specs.Upkeep.{Held, DecidesKept}
+use Rattle.decision.specs.Upkeep.{HeldBy, DecidesKept}
 use Rattle.decision.specs.declared.kept.Sets.{Sets}
 use Rattle.scheduler.specs.Effects.{Ready, Applied}
 use Rattle.scheduler.proofs.EffectsLaws.{left}
@@ -62,30 +62,30 @@ module _ (s : State) (h b : List ℕ) where
   unfolding answer
   answer-zero e = rw e
 
-module _ (c : Settings) (u : List ℕ) (k : Clock) (e r p n m q h budgets tops firsts : List ℕ) (sets : Sets)
-    (g : Whole c u k e r p n m q h budgets tops firsts sets) where
+module _ (c : Settings) (u : List ℕ) (k : Clock) (ts : Columns) (q h budgets tops firsts : List ℕ) (sets : Sets)
+    (g : Whole c u k ts q h budgets tops firsts sets) where
   abbrev s : State
-  s = stateOf c u k e r p n m q
+  s = stateOf c u k ts q
 
   abbrev v : Saved
   v = saved s h
 
   -- what the next door finds
-  pub taken-arrays : refusedArrays c u k e r p n m q h ≡ 0
-  taken-arrays = as-state c u k e r p n m q h (g .sizes .exists-plain) (g .sizes .ready-plain) ∙ g .taken
+  pub taken-arrays : refusedArrays c u k ts q h ≡ 0
+  taken-arrays = as-state c u k ts q h (g .sizes .flags) ∙ g .taken
 
   good : Good c v
   good = record {
     fit = fit-of s h (g .taken);
-    lengths = record { shares = g .shares; used = map-length u ∙ g .sixteen; threads = threads-length e r p n m; queue = g .full };
+    lengths = record { shares = g .shares; used = map-length u ∙ g .sixteen; threads = threads-length ts; queue = g .full };
     settings = refl;
   }
 
   -- the invariant after an event
-  whole-after : (b u′ : List ℕ) (k′ : Clock) (e′ r′ p′ n′ m′ q′ h′ tops′ firsts′ : List ℕ) (sets′ : Sets)
-      → saved (stateOf c u′ k′ e′ r′ p′ n′ m′ q′) h′ ≡ answer v b .after → Regular e′ r′ p′ n′ m′
-      → Held c u′ p′ n′ m′ (take (k′ .queued) q′) budgets tops′ firsts′ sets′ → Whole c u′ k′ e′ r′ p′ n′ m′ q′ h′ budgets tops′ firsts′ sets′
-  whole-after b u′ k′ e′ r′ p′ n′ m′ q′ h′ tops′ firsts′ sets′ same sized held =
+  whole-after : (b u′ : List ℕ) (k′ : Clock) (ts′ : Columns) (q′ h′ tops′ firsts′ : List ℕ) (sets′ : Sets)
+      → saved (stateOf c u′ k′ ts′ q′) h′ ≡ answer v b .after → Regular ts′
+      → HeldBy c u′ k′ ts′ q′ budgets tops′ firsts′ sets′ → Whole c u′ k′ ts′ q′ h′ budgets tops′ firsts′ sets′
+  whole-after b u′ k′ ts′ q′ h′ tops′ firsts′ sets′ same sized held =
       let a : Good c (answer v b .after) = good-answer c v b good in
       record {
         sixteen = sym (map-length u′) ∙ ap (λ (z : Saved). length (z .state .used)) same ∙ a .lengths .used;
@@ -98,16 +98,16 @@ module _ (c : Settings) (u : List ℕ) (k : Clock) (e r p n m q h budgets tops f
 
   -- ---- a refusal
 
-  no : (b : List ℕ) (x : Refusal) → refusedEvent s b ≡ numberOf x → StepAnswered c v b (verdict.Refused x) u k e r p n m q h budgets tops firsts sets
+  no : (b : List ℕ) (x : Refusal) → refusedEvent s b ≡ numberOf x → StepAnswered c v b (verdict.Refused x) u k ts q h budgets tops firsts sets
   no b x f =
       let z = refused-by-event s h b (g .taken) ∙ f in
       record { line = line-no s h b x z; after = after-no s h b x z; whole = g }
 
-  pub no-event : (b : List ℕ) (o : Outcome) (x : Refusal) → o ≡ Refused x → outcomeOf o ≡ refusedEvent s b → StepAnswered c v b (verdict.Refused x) u k e r p n m q h budgets tops firsts sets
+  pub no-event : (b : List ℕ) (o : Outcome) (x : Refusal) → o ≡ Refused x → outcomeOf o ≡ refusedEvent s b → StepAnswered c v b (verdict.Refused x) u k ts q h budgets tops firsts sets
   no-event b o x f i = no b x (sym i ∙ ap outcomeOf f)
 
-  pub same : (k′ : Clock) → k′ ≡ k → Same u k e r p n m q h u k′ e r p n m q h
-  same k′ i = record { totals = refl; clock = i; exists = refl; ready = refl; partitions = refl; priorities = refl; masks = refl; queue = refl; history = refl }
+  pub same : (k′ : Clock) → k′ ≡ k → Same u k ts q h u k′ ts q h
+  same k′ i = record { totals = refl; clock = i; threads = refl; queue = refl; history = refl }
 
   -- ---- an accepted event
 
@@ -118,7 +118,7 @@ module _ (c : Settings) (u : List ℕ) (k : Clock) (e r p n m q h budgets tops f
   taken-event b o f i = refused-by-event s h b (g .taken) ∙ sym i ∙ ap outcomeOf f
 
   module _ (x : Event) (yes : refused s h (bytesOf x) ≡ 0) (stamped : x .stamp ≡ stampOf (bytesOf x)) where
-    pub ready : Ready c u k e r p n m q h budgets tops firsts sets x
+    pub ready : Ready c u k ts q h budgets tops firsts sets x
     ready = record {
       sixteen = g .sixteen;
       shares = g .shares;
@@ -129,19 +129,19 @@ module _ (c : Settings) (u : List ℕ) (k : Clock) (e r p n m q h budgets tops f
       held = g .held;
     }
 
-    pub decided : (u′ : List ℕ) (k′ : Clock) (e′ r′ p′ n′ m′ q′ h′ tops′ firsts′ : List ℕ) (sets′ : Sets) (d : Decision)
-        → Applied c v u′ k′ e′ r′ p′ n′ m′ q′ h′ budgets tops′ firsts′ sets′ (bytesOf x) → DecidesKept c u′ budgets tops′ firsts′ sets′ d
+    pub decided : (u′ : List ℕ) (k′ : Clock) (ts′ : Columns) (q′ h′ tops′ firsts′ : List ℕ) (sets′ : Sets) (d : Decision)
+        → Applied c v u′ k′ ts′ q′ h′ budgets tops′ firsts′ sets′ (bytesOf x) → DecidesKept c u′ budgets tops′ firsts′ sets′ d
         → StepAnswered c v (bytesOf x) (verdict.Decided d) u′ (record { stamp = k′ .stamp; slot = k′ .slot; since = k′ .since; queued = k′ .queued; running = d .thread })
-        e′ r′ p′ n′ m′ q′ h′ budgets tops′ firsts′ sets′
-    decided u′ k′ e′ r′ p′ n′ m′ q′ h′ tops′ firsts′ sets′ d a w =
+        ts′ q′ h′ budgets tops′ firsts′ sets′
+    decided u′ k′ ts′ q′ h′ tops′ firsts′ sets′ d a w =
         let b = bytesOf x in
-        let y : Saved = saved (stateOf c u′ k′ e′ r′ p′ n′ m′ q′) h′ in
+        let y : Saved = saved (stateOf c u′ k′ ts′ q′) h′ in
         let fine : Settled (y .state) (y .history) =
-        subst (λ (z : Saved). Settled (z .state) (z .history)) (sym (a .state)) (left c u k e r p n m q h budgets tops firsts sets x ready .settled) in
-        let same : decidedOf d ≡ decide (y .state) = w k′ e′ r′ p′ n′ m′ q′ h′ (a .sizes) fine (a .held) in
+        subst (λ (z : Saved). Settled (z .state) (z .history)) (sym (a .state)) (left c u k ts q h budgets tops firsts sets x ready .settled) in
+        let same : decidedOf d ≡ decide (y .state) = w k′ ts′ q′ h′ (a .sizes) fine (a .held) in
         let then = after-yes s h b yes y d (a .state) same in
         record {
           line = line-yes s h b yes y d (a .state) same;
           after = then;
-          whole = whole-after b u′ (record { stamp = k′ .stamp; slot = k′ .slot; since = k′ .since; queued = k′ .queued; running = d .thread }) e′ r′ p′ n′ m′ q′ h′ tops′ firsts′ sets′ then (a .sizes) (a .held);
+          whole = whole-after b u′ (record { stamp = k′ .stamp; slot = k′ .slot; since = k′ .since; queued = k′ .queued; running = d .thread }) ts′ q′ h′ tops′ firsts′ sets′ then (a .sizes) (a .held);
         }

@@ -7,7 +7,7 @@ use Rattle.units.specs.Units.{nextOf}
 use Rattle.sheet.specs.Settings.{W}
 use Rattle.sheet.specs.declared.Settings.{Settings}
 use Rattle.model.specs.declared.Clock.{Clock}
-use Rattle.model.specs.Arrays.{Regular, stateOf}
+use Rattle.model.specs.Arrays.{Columns, withPartitionColumn, Regular, stateOf}
 use Rattle.model.specs.Event.{stampOf}
 use Rattle.model.specs.Facts.{Accepted}
 use Rattle.model.specs.Step.{Saved, saved, charge, moveSlot, apply}
@@ -15,24 +15,24 @@ use Rattle.event.specs.Bytes.{bytesOf}
 use Rattle.event.specs.declared.Event.{Event}
 use Rattle.accounts.specs.Charged.{Payable, Charged}
 use Rattle.accounts.specs.Lowered as Slots
-use Rattle.decision.specs.Upkeep.{Held}
+use Rattle.decision.specs.Upkeep.{HeldBy}
 use Rattle.decision.specs.declared.kept.Sets.{Sets}
 
 -- an accepted event, and what is kept
-pub record Ready (c : Settings) (u : List ℕ) (k : Clock) (e r p n m q h budgets tops firsts : List ℕ) (sets : Sets) (x : Event) : Type 0 where
+pub record Ready (c : Settings) (u : List ℕ) (k : Clock) (ts : Columns) (q h budgets tops firsts : List ℕ) (sets : Sets) (x : Event) : Type 0 where
   pub sixteen : length u ≡ 16
   pub shares : length (c .shares) ≡ 16
-  pub sizes : Regular e r p n m
+  pub sizes : Regular ts
   pub full : length q ≡ 64
-  pub accepted : Accepted (stateOf c u k e r p n m q) h (bytesOf x)
+  pub accepted : Accepted (stateOf c u k ts q) h (bytesOf x)
   pub stamped : x .stamp ≡ stampOf (bytesOf x)
-  pub held : Held c u p n m (take (k .queued) q) budgets tops firsts sets
+  pub held : HeldBy c u k ts q budgets tops firsts sets
 
 -- the model's two steps were done, and what is kept follows
-pub record Applied (c : Settings) (v : Saved) (u : List ℕ) (k : Clock) (e r p n m q h budgets tops firsts : List ℕ) (sets : Sets) (b : List ℕ) : Type 0 where
-  pub state : saved (stateOf c u k e r p n m q) h ≡ apply v b
-  pub sizes : Regular e r p n m
-  pub held : Held c u p n m (take (k .queued) q) budgets tops firsts sets
+pub record Applied (c : Settings) (v : Saved) (u : List ℕ) (k : Clock) (ts : Columns) (q h budgets tops firsts : List ℕ) (sets : Sets) (b : List ℕ) : Type 0 where
+  pub state : saved (stateOf c u k ts q) h ≡ apply v b
+  pub sizes : Regular ts
+  pub held : HeldBy c u k ts q budgets tops firsts sets
 
 -- a tick can be done: the charge, and after any charge the move
 pub record Ticking (c : Settings) (u : List ℕ) (k : Clock) (p h : List ℕ) (stamp : ℕ) : Type 0 where
@@ -42,4 +42,5 @@ pub record Ticking (c : Settings) (u : List ℕ) (k : Clock) (p h : List ℕ) (s
 
 abbrev pub Ticked : Settings → List ℕ → Clock → List ℕ → List ℕ → List ℕ → Clock → List ℕ → ℕ → Type 0
 Ticked c u k p h u′ k′ h′ stamp =
-    (e r n m q : List ℕ) → saved (stateOf c u′ k′ e r p n m q) h′ ≡ moveSlot (charge (saved (stateOf c u k e r p n m q) h) stamp)
+    (ts : Columns) (q : List ℕ)
+    → saved (stateOf c u′ k′ (withPartitionColumn ts p) q) h′ ≡ moveSlot (charge (saved (stateOf c u k (withPartitionColumn ts p) q) h) stamp)

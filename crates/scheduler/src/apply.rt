@@ -10,7 +10,7 @@ use sheet::Settings;
 use threads::actions;
 ghost use mathlib.Core.Path.{_≡_};
 ghost use mathlib.Core.Logic.{_≢_};
-ghost use Rattle.model.specs.Arrays.{stateOf};
+ghost use Rattle.model.specs.Arrays.{columns, stateOf};
 ghost use Rattle.model.specs.Step.{saved};
 ghost use Rattle.model.specs.Event.{kindOf};
 ghost use Rattle.sheet.specs.Settings.{C};
@@ -73,11 +73,11 @@ fn work(
     sets: Sets,
     event: Event,
 ) -> Done
-    requires { ⌜ Ready settings (now used) c (now exists) (now ready) (now partitions) (now priorities) (now masks) (now queue) (now history) (now budgets) (now tops) (now firsts) sets event × (kindOf (bytesOf event) ≢ 1) × (kindOf (bytesOf event) ≢ 7) ⌝ }
+    requires { ⌜ Ready settings (now used) c (columns (now exists) (now ready) (now partitions) (now priorities) (now masks)) (now queue) (now history) (now budgets) (now tops) (now firsts) sets event × (kindOf (bytesOf event) ≢ 1) × (kindOf (bytesOf event) ≢ 7) ⌝ }
     ensures { λ r. ⌜
         Applied settings
-        (saved (stateOf settings (now (used .entry)) c (now (exists .entry)) (now (ready .entry)) (now (partitions .entry)) (now (priorities .entry)) (now (masks .entry)) (now (queue .entry))) (now (history .entry)))
-        (now (used .exit)) (r .clock) (now (exists .exit)) (now (ready .exit)) (now (partitions .exit)) (now (priorities .exit)) (now (masks .exit)) (now (queue .exit)) (now (history .exit)) (now (budgets .entry)) (now (tops .exit)) (now (firsts .exit)) (r .sets)
+        (saved (stateOf settings (now (used .entry)) c (columns (now (exists .entry)) (now (ready .entry)) (now (partitions .entry)) (now (priorities .entry)) (now (masks .entry))) (now (queue .entry))) (now (history .entry)))
+        (now (used .exit)) (r .clock) (columns (now (exists .exit)) (now (ready .exit)) (now (partitions .exit)) (now (priorities .exit)) (now (masks .exit))) (now (queue .exit)) (now (history .exit)) (now (budgets .entry)) (now (tops .exit)) (now (firsts .exit)) (r .sets)
         (bytesOf event)
         ⌝ }
 {
@@ -174,11 +174,11 @@ pub fn apply(
     sets: Sets,
     event: Event,
 ) -> Done
-    requires { ⌜ Ready settings (now used) c (now exists) (now ready) (now partitions) (now priorities) (now masks) (now queue) (now history) (now budgets) (now tops) (now firsts) sets event ⌝ }
+    requires { ⌜ Ready settings (now used) c (columns (now exists) (now ready) (now partitions) (now priorities) (now masks)) (now queue) (now history) (now budgets) (now tops) (now firsts) sets event ⌝ }
     ensures { λ r. ⌜
         Applied settings
-        (saved (stateOf settings (now (used .entry)) c (now (exists .entry)) (now (ready .entry)) (now (partitions .entry)) (now (priorities .entry)) (now (masks .entry)) (now (queue .entry))) (now (history .entry)))
-        (now (used .exit)) (r .clock) (now (exists .exit)) (now (ready .exit)) (now (partitions .exit)) (now (priorities .exit)) (now (masks .exit)) (now (queue .exit)) (now (history .exit)) (now (budgets .entry)) (now (tops .exit)) (now (firsts .exit)) (r .sets)
+        (saved (stateOf settings (now (used .entry)) c (columns (now (exists .entry)) (now (ready .entry)) (now (partitions .entry)) (now (priorities .entry)) (now (masks .entry))) (now (queue .entry))) (now (history .entry)))
+        (now (used .exit)) (r .clock) (columns (now (exists .exit)) (now (ready .exit)) (now (partitions .exit)) (now (priorities .exit)) (now (masks .exit))) (now (queue .exit)) (now (history .exit)) (now (budgets .entry)) (now (tops .exit)) (now (firsts .exit)) (r .sets)
         (bytesOf event)
         ⌝ }
 {

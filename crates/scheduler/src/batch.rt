@@ -3,7 +3,7 @@ ghost use mathlib.Core.Path.{_≡_};
 ghost use mathlib.Core.List.{_++_};
 ghost use Prim.Native.Nat.{_*_, _≤_, min};
 ghost use lib.ListN.{length, drop};
-ghost use Rattle.model.specs.Arrays.{stateOf};
+ghost use Rattle.model.specs.Arrays.{columns, stateOf};
 ghost use Rattle.model.specs.Lent.{refusedArrays};
 ghost use Rattle.model.specs.Step.{saved};
 ghost use Rattle.model.specs.Run as Run;
@@ -43,11 +43,11 @@ pub fn steps(
     out: &mut [u8],
     n: usize,
 ) -> Clock
-    requires { ⌜ Whole settings (now used) c (now exists) (now ready) (now partitions) (now priorities) (now masks) (now queue) (now history) (now budgets) (now tops) (now firsts) sets × (n ≤ eventCount (now events)) × (12 * n ≤ length (now out)) ⌝ }
+    requires { ⌜ Whole settings (now used) c (columns (now exists) (now ready) (now partitions) (now priorities) (now masks)) (now queue) (now history) (now budgets) (now tops) (now firsts) sets × (n ≤ eventCount (now events)) × (12 * n ≤ length (now out)) ⌝ }
     ensures { λ r. ⌜
-        (saved (stateOf settings (now (used .exit)) r (now (exists .exit)) (now (ready .exit)) (now (partitions .exit)) (now (priorities .exit)) (now (masks .exit)) (now (queue .exit))) (now (history .exit)) ≡ Run.after (saved (stateOf settings (now (used .entry)) c (now (exists .entry)) (now (ready .entry)) (now (partitions .entry)) (now (priorities .entry)) (now (masks .entry)) (now (queue .entry))) (now (history .entry))) (eventsIn (now (events .entry)) n))
-        × (now (out .exit) ≡ linesOf (Run.run (saved (stateOf settings (now (used .entry)) c (now (exists .entry)) (now (ready .entry)) (now (partitions .entry)) (now (priorities .entry)) (now (masks .entry)) (now (queue .entry))) (now (history .entry))) (eventsIn (now (events .entry)) n)) ++ drop (12 * n) (now (out .entry)))
-        × (refusedArrays settings (now (used .exit)) r (now (exists .exit)) (now (ready .exit)) (now (partitions .exit)) (now (priorities .exit)) (now (masks .exit)) (now (queue .exit)) (now (history .exit)) ≡ 0)
+        (saved (stateOf settings (now (used .exit)) r (columns (now (exists .exit)) (now (ready .exit)) (now (partitions .exit)) (now (priorities .exit)) (now (masks .exit))) (now (queue .exit))) (now (history .exit)) ≡ Run.after (saved (stateOf settings (now (used .entry)) c (columns (now (exists .entry)) (now (ready .entry)) (now (partitions .entry)) (now (priorities .entry)) (now (masks .entry))) (now (queue .entry))) (now (history .entry))) (eventsIn (now (events .entry)) n))
+        × (now (out .exit) ≡ linesOf (Run.run (saved (stateOf settings (now (used .entry)) c (columns (now (exists .entry)) (now (ready .entry)) (now (partitions .entry)) (now (priorities .entry)) (now (masks .entry))) (now (queue .entry))) (now (history .entry))) (eventsIn (now (events .entry)) n)) ++ drop (12 * n) (now (out .entry)))
+        × (refusedArrays settings (now (used .exit)) r (columns (now (exists .exit)) (now (ready .exit)) (now (partitions .exit)) (now (priorities .exit)) (now (masks .exit))) (now (queue .exit)) (now (history .exit)) ≡ 0)
         ⌝ }
 {
     let mut t = c;

@@ -12,7 +12,7 @@ use refusals::Refusal;
 use sheet::Settings;
 ghost use mathlib.Core.Path.{_≡_};
 ghost use Rattle.model.specs.Event.{refused, stampOf};
-ghost use Rattle.model.specs.Arrays.{stateOf};
+ghost use Rattle.model.specs.Arrays.{columns, stateOf};
 ghost use Rattle.model.specs.Step.{saved};
 ghost use Rattle.event.specs.Bytes.{bytesOf};
 ghost use Rattle.scheduler.specs.Stepping.{Whole, StepAnswered, Still, refusedBy};
@@ -42,13 +42,13 @@ fn accept(
     sets: Sets,
     event: Event,
 ) -> Stepped
-    requires { ⌜ Whole settings (now used) c (now exists) (now ready) (now partitions) (now priorities) (now masks) (now queue) (now history) (now budgets) (now tops) (now firsts) sets × (refused (stateOf settings (now used) c (now exists) (now ready) (now partitions) (now priorities) (now masks) (now queue)) (now history) (bytesOf event) ≡ 0) × (event .stamp ≡ stampOf (bytesOf event)) ⌝ }
+    requires { ⌜ Whole settings (now used) c (columns (now exists) (now ready) (now partitions) (now priorities) (now masks)) (now queue) (now history) (now budgets) (now tops) (now firsts) sets × (refused (stateOf settings (now used) c (columns (now exists) (now ready) (now partitions) (now priorities) (now masks)) (now queue)) (now history) (bytesOf event) ≡ 0) × (event .stamp ≡ stampOf (bytesOf event)) ⌝ }
     ensures { λ r. ⌜
         StepAnswered settings
-        (saved (stateOf settings (now (used .entry)) c (now (exists .entry)) (now (ready .entry)) (now (partitions .entry)) (now (priorities .entry)) (now (masks .entry)) (now (queue .entry))) (now (history .entry)))
+        (saved (stateOf settings (now (used .entry)) c (columns (now (exists .entry)) (now (ready .entry)) (now (partitions .entry)) (now (priorities .entry)) (now (masks .entry))) (now (queue .entry))) (now (history .entry)))
         (bytesOf event)
         (r .verdict)
-        (now (used .exit)) (r .clock) (now (exists .exit)) (now (ready .exit)) (now (partitions .exit)) (now (priorities .exit)) (now (masks .exit)) (now (queue .exit)) (now (history .exit)) (now (budgets .entry)) (now (tops .exit)) (now (firsts .exit)) (r .sets)
+        (now (used .exit)) (r .clock) (columns (now (exists .exit)) (now (ready .exit)) (now (partitions .exit)) (now (priorities .exit)) (now (masks .exit))) (now (queue .exit)) (now (history .exit)) (now (budgets .entry)) (now (tops .exit)) (now (firsts .exit)) (r .sets)
         ⌝ }
 {
     let d = apply::apply(
@@ -116,14 +116,14 @@ pub fn step(
     sets: Sets,
     event: &[u8],
 ) -> Stepped
-    requires { ⌜ Whole settings (now used) c (now exists) (now ready) (now partitions) (now priorities) (now masks) (now queue) (now history) (now budgets) (now tops) (now firsts) sets ⌝ }
+    requires { ⌜ Whole settings (now used) c (columns (now exists) (now ready) (now partitions) (now priorities) (now masks)) (now queue) (now history) (now budgets) (now tops) (now firsts) sets ⌝ }
     ensures { λ r. ⌜
         StepAnswered settings
-        (saved (stateOf settings (now (used .entry)) c (now (exists .entry)) (now (ready .entry)) (now (partitions .entry)) (now (priorities .entry)) (now (masks .entry)) (now (queue .entry))) (now (history .entry)))
+        (saved (stateOf settings (now (used .entry)) c (columns (now (exists .entry)) (now (ready .entry)) (now (partitions .entry)) (now (priorities .entry)) (now (masks .entry))) (now (queue .entry))) (now (history .entry)))
         (now (event .entry))
         (r .verdict)
-        (now (used .exit)) (r .clock) (now (exists .exit)) (now (ready .exit)) (now (partitions .exit)) (now (priorities .exit)) (now (masks .exit)) (now (queue .exit)) (now (history .exit)) (now (budgets .entry)) (now (tops .exit)) (now (firsts .exit)) (r .sets)
-        × Still (saved (stateOf settings (now (used .entry)) c (now (exists .entry)) (now (ready .entry)) (now (partitions .entry)) (now (priorities .entry)) (now (masks .entry)) (now (queue .entry))) (now (history .entry))) (now (event .entry)) (now (used .entry)) c (now (exists .entry)) (now (ready .entry)) (now (partitions .entry)) (now (priorities .entry)) (now (masks .entry)) (now (queue .entry)) (now (history .entry)) (now (used .exit)) (r .clock) (now (exists .exit)) (now (ready .exit)) (now (partitions .exit)) (now (priorities .exit)) (now (masks .exit)) (now (queue .exit)) (now (history .exit))
+        (now (used .exit)) (r .clock) (columns (now (exists .exit)) (now (ready .exit)) (now (partitions .exit)) (now (priorities .exit)) (now (masks .exit))) (now (queue .exit)) (now (history .exit)) (now (budgets .entry)) (now (tops .exit)) (now (firsts .exit)) (r .sets)
+        × Still (saved (stateOf settings (now (used .entry)) c (columns (now (exists .entry)) (now (ready .entry)) (now (partitions .entry)) (now (priorities .entry)) (now (masks .entry))) (now (queue .entry))) (now (history .entry))) (now (event .entry)) (now (used .entry)) c (columns (now (exists .entry)) (now (ready .entry)) (now (partitions .entry)) (now (priorities .entry)) (now (masks .entry))) (now (queue .entry)) (now (history .entry)) (now (used .exit)) (r .clock) (columns (now (exists .exit)) (now (ready .exit)) (now (partitions .exit)) (now (priorities .exit)) (now (masks .exit))) (now (queue .exit)) (now (history .exit))
         ⌝ }
 {
     let decoded = event::decode(event);

@@ -101,7 +101,7 @@ pub lengths : (x : Lent) → Sizes x → Lengths (stateIn x)
 lengths x s = record {
   shares = table-length _ 16;
   used = map-length (x .used) ∙ s .used;
-  threads = threads-length (x .exists) (x .ready) (x .partitions) (x .priorities) (x .masks);
+  threads = threads-length (x .threads);
   queue = s .queue;
 }
 
@@ -145,7 +145,7 @@ door-demand3 x (c ∷ cs) q before opening within closing later e st = go (ℕ-d
 
     go : Dec (refusedIn x ≡ 0) → Promised
     go (yes z) =
-        demand3 (savedIn x) (lengths x (q .0 .sizes)) (accepted (Lent.lentSettings x) (x .used) (lentClock x) (x .exists) (x .ready) (x .partitions) (x .priorities) (x .masks) (x .queue) (x .history) z .2)
+        demand3 (savedIn x) (lengths x (q .0 .sizes)) (accepted (Lent.lentSettings x) (x .used) (lentClock x) (x .threads) (x .queue) (x .history) z .1)
         (givenTo calls) before opening within closing later (sym (entries-run x calls q z) ∙ e) st
     go (no n) =
         let none = subst (λ (l : List Entry). all (λ i. not (Demand3.accepted i)) l ≡ true) e (none-accepted x calls (refused-stays x calls q n) n) in

@@ -77,7 +77,7 @@ module _ (x : Lent) (c : Call) (q : Answered x (c .bytes) (c .line) (c .left)) (
   fine =
       let y = c .left in
       of-sound s (y .history)
-      (fit-of s (y .history) (accepted (lentSettings y) (y .used) (lentClock y) (y .exists) (y .ready) (y .partitions) (y .priorities) (y .masks) (y .queue) (y .history) (q .taken taken) .2) .sound)
+      (fit-of s (y .history) (accepted (lentSettings y) (y .used) (lentClock y) (y .threads) (y .queue) (y .history) (q .taken taken) .1) .sound)
 
   repeats : Doors.decision (c .left) ≡ c .line
   unfolding Doors.decision

@@ -10,12 +10,12 @@ use lib.Seq.{ext-getD}
 use borrow.Author.Tests.{ne-eqb}
 use native.Mathlib.Decide.{ℕ-discrete}
 use Rattle.lists.specs.Lists.{below}
-use Rattle.lists.proofs.Tests.{clash}
+use Rattle.lists.proofs.Tests.{clash, and}
 use Rattle.lists.proofs.All.{below-all}
 use Rattle.lists.proofs.Tables.{table-length, table-at}
 use Rattle.units.specs.declared.Cycles.{Cycles}
 use Rattle.model.specs.State.{cycles, absent, Thread}
-use Rattle.model.specs.Arrays.{flag, threadIn, threadsIn, plain}
+use Rattle.model.specs.Arrays.{flag, Columns, columns, threadIn, threadsIn, plain}
 use Rattle.model.specs.Typed.{Lengths}
 use Rattle.model.specs.Event.{refusedState, refused}
 use Rattle.model.specs.Policy.{decide}
@@ -39,13 +39,17 @@ use Rattle.sessions.proofs.Calls.{answer-yes, answer-no, lengths, calls
 abbrev number : (Thread → ℕ) → List Thread → List ℕ
 number f ts = map f ts
 
+abbrev columnsOf : List Thread → Columns
+columnsOf l =
+    columns (number (λ t. flag (t .exists)) l) (number (λ t. flag (t .ready)) l) (number (λ t. t .partition) l) (number (λ t. t .priority) l)
+    (number (λ t. t .mask) l)
+
 -- settings as in x
 abbrev stored : Lent → Saved → Lent
 stored x v =
     let s = v .state in
     lent (x .settings) (x .shares) (map (λ c. c .0) (s .used)) (s .stamp ∷ s .slot .0 ∷ s .since .0 ∷ s .queued ∷ s .running ∷ [])
-    (number (λ t. flag (t .exists)) (s .threads)) (number (λ t. flag (t .ready)) (s .threads)) (number (λ t. t .partition) (s .threads))
-    (number (λ t. t .priority) (s .threads)) (number (λ t. t .mask) (s .threads)) (s .queue) (v .history)
+    (columnsOf (s .threads)) (s .queue) (v .history)
 
 used-back : (l : List Cycles) → map cycles (map (λ c. c .0) l) ≡ l
 used-back [] = refl
@@ -56,36 +60,21 @@ number-at f z [] i = sym z
 number-at f z (t ∷ ts) zero = refl
 number-at f z (t ∷ ts) (suc i) = number-at f z ts i
 
-module _ (ts : List Thread) (h : length ts ≡ 64) where
-  abbrev e : List ℕ
-  e = number (λ t. flag (t .exists)) ts
-
-  abbrev r : List ℕ
-  r = number (λ t. flag (t .ready)) ts
-
-  abbrev p : List ℕ
-  p = number (λ t. t .partition) ts
-
-  abbrev n : List ℕ
-  n = number (λ t. t .priority) ts
-
-  abbrev m : List ℕ
-  m = number (λ t. t .mask) ts
-
-  thread-back : (i : ℕ) → threadIn e r p n m i ≡ getD ts i absent
+module _ (l : List Thread) (h : length l ≡ 64) where
+  thread-back : (i : ℕ) → threadIn (columnsOf l) i ≡ getD l i absent
   thread-back i = λ j. record {
-    exists = (ap (λ (k : ℕ). eqb k 1) (number-at (λ t. flag (t .exists)) refl ts i) ∙ flag-on (getD ts i absent .exists)) j;
-    ready = (ap (λ (k : ℕ). eqb k 1) (number-at (λ t. flag (t .ready)) refl ts i) ∙ flag-on (getD ts i absent .ready)) j;
-    partition = number-at (λ t. t .partition) refl ts i j;
-    priority = number-at (λ t. t .priority) refl ts i j;
-    mask = number-at (λ t. t .mask) refl ts i j;
+    exists = (ap (λ (k : ℕ). eqb k 1) (number-at (λ t. flag (t .exists)) refl l i) ∙ flag-on (getD l i absent .exists)) j;
+    ready = (ap (λ (k : ℕ). eqb k 1) (number-at (λ t. flag (t .ready)) refl l i) ∙ flag-on (getD l i absent .ready)) j;
+    partition = number-at (λ t. t .partition) refl l i j;
+    priority = number-at (λ t. t .priority) refl l i j;
+    mask = number-at (λ t. t .mask) refl l i j;
   }
 
-  threads-back : threadsIn e r p n m ≡ ts
+  threads-back : threadsIn (columnsOf l) ≡ l
   unfolding threadsIn
   threads-back =
-      ext-getD absent _ ts (table-length (threadIn e r p n m) 64 ∙ sym h) (λ i b.
-      table-at (threadIn e r p n m) 64 i absent (rw (table-length (threadIn e r p n m) 64) at b) ∙ thread-back i)
+      ext-getD absent _ l (table-length (threadIn (columnsOf l)) 64 ∙ sym h) (λ i b.
+      table-at (threadIn (columnsOf l)) 64 i absent (rw (table-length (threadIn (columnsOf l)) 64) at b) ∙ thread-back i)
 
 flags-plain : (f : Thread → Bool) → f absent ≡ false → (ts : List Thread) → plain (number (λ t. flag (f t)) ts) ≡ true
 unfolding plain
@@ -151,7 +140,7 @@ answer-there x s b = go (ℕ-discrete (refusedIn x) 0)
       where
         good : Good (Lent.lentSettings x) (answer (savedIn x) b .after)
         good =
-            let (_, _, t) = accepted (Lent.lentSettings x) (x .used) (lentClock x) (x .exists) (x .ready) (x .partitions) (x .priorities) (x .masks) (x .queue) (x .history) z in
+            let (_, t) = accepted (Lent.lentSettings x) (x .used) (lentClock x) (x .threads) (x .queue) (x .history) z in
             good-answer (Lent.lentSettings x) (savedIn x) b (record { fit = fit-of (stateIn x) (x .history) t; lengths = lengths x s; settings = refl })
 
         v : Saved
@@ -165,8 +154,8 @@ answer-there x s b = go (ℕ-discrete (refusedIn x) 0)
 
         fine : refusedIn (stored x v) ≡ 0
         fine =
-            as-state (Lent.lentSettings x) (stored x v .used) (lentClock (stored x v)) (stored x v .exists) (stored x v .ready) (stored x v .partitions) (stored x v .priorities) (stored x v .masks) (stored x v .queue) (v .history)
-            (flags-plain (λ t. t .exists) refl (v .state .threads)) (flags-plain (λ t. t .ready) refl (v .state .threads))
+            as-state (Lent.lentSettings x) (stored x v .used) (lentClock (stored x v)) (stored x v .threads) (stored x v .queue) (v .history)
+            (and (flags-plain (λ t. t .exists) refl (v .state .threads)) (flags-plain (λ t. t .ready) refl (v .state .threads)))
             ∙ subst (λ (w : Saved). refusedState (w .state) (w .history) ≡ 0) (sym back) (of-fit (v .state) (v .history) (good .fit))
 
         accepts : Dec (answerTo x b .refusal ≡ 0) → (y : Lent) × Answered x b (answerLine (answerTo x b)) y × Sizes y

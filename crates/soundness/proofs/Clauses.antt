@@ -2,12 +2,11 @@
 use mathlib.Core.Path.{_≡_, refl, ap, _∙_}
 use Prim.Native.Nat.{ℕ}
 use mathlib.Core.Bool.{Bool, true, false, not, cond, _&&_, _||_, and-true, and-assoc}
-use mathlib.Core.List.{List}
 use lib.Dec.{eqb, leb, ltb}
 use lib.ListN.{getD}
 use Rattle.lists.specs.Lists.{below, all}
 use Rattle.lists.proofs.Every.{all-same, all-both}
-use Rattle.model.specs.Arrays.{threadIn, plain}
+use Rattle.model.specs.Arrays.{Columns, threadIn, plain}
 use Rattle.model.specs.Sound.{soundThread}
 use Rattle.soundness.specs.Records.{soundRecords}
 
@@ -17,25 +16,25 @@ choice true a b = and-true a
 choice false a b = refl
 
 -- what the pass tests of thread t
-abbrev pub fine : ℕ → List ℕ → List ℕ → List ℕ → List ℕ → List ℕ → ℕ → Bool
-fine count e r p n m t =
-    leb (getD e t 0) 1 && leb (getD r t 0) 1
-    && (not (eqb (getD e t 0) 1) || (ltb (getD p t 0) count && not (eqb (getD m t 0) 0)))
-    && (eqb (getD e t 0) 1 || (not (eqb (getD r t 0) 1) && eqb (getD p t 0) 0 && eqb (getD n t 0) 0 && eqb (getD m t 0) 0))
+abbrev pub fine : ℕ → Columns → ℕ → Bool
+fine count ts t =
+    leb (getD (ts .exists) t 0) 1 && leb (getD (ts .ready) t 0) 1
+    && (not (eqb (getD (ts .exists) t 0) 1) || (ltb (getD (ts .partitions) t 0) count && not (eqb (getD (ts .masks) t 0) 0)))
+    && (eqb (getD (ts .exists) t 0) 1 || (not (eqb (getD (ts .ready) t 0) 1) && eqb (getD (ts .partitions) t 0) 0 && eqb (getD (ts .priorities) t 0) 0 && eqb (getD (ts .masks) t 0) 0))
 
-module _ (count : ℕ) (e r p n m : List ℕ) where
-  fine-is : (t : ℕ) → fine count e r p n m t ≡ ((leb (getD e t 0) 1 && leb (getD r t 0) 1) && soundThread count (threadIn e r p n m t))
+module _ (count : ℕ) (ts : Columns) where
+  fine-is : (t : ℕ) → fine count ts t ≡ ((leb (getD (ts .exists) t 0) 1 && leb (getD (ts .ready) t 0) 1) && soundThread count (threadIn ts t))
   unfolding soundThread
   fine-is t =
-      let flags : Bool = leb (getD e t 0) 1 && leb (getD r t 0) 1 in
-      let placed : Bool = ltb (getD p t 0) count && not (eqb (getD m t 0) 0) in
-      let blank : Bool = not (eqb (getD r t 0) 1) && eqb (getD p t 0) 0 && eqb (getD n t 0) 0 && eqb (getD m t 0) 0 in
-      and-assoc flags (not (eqb (getD e t 0) 1) || placed) (eqb (getD e t 0) 1 || blank)
-      ∙ ap (λ (z : Bool). flags && z) (choice (eqb (getD e t 0) 1) placed blank)
+      let flags : Bool = leb (getD (ts .exists) t 0) 1 && leb (getD (ts .ready) t 0) 1 in
+      let placed : Bool = ltb (getD (ts .partitions) t 0) count && not (eqb (getD (ts .masks) t 0) 0) in
+      let blank : Bool = not (eqb (getD (ts .ready) t 0) 1) && eqb (getD (ts .partitions) t 0) 0 && eqb (getD (ts .priorities) t 0) 0 && eqb (getD (ts .masks) t 0) 0 in
+      and-assoc flags (not (eqb (getD (ts .exists) t 0) 1) || placed) (eqb (getD (ts .exists) t 0) 1 || blank)
+      ∙ ap (λ (z : Bool). flags && z) (choice (eqb (getD (ts .exists) t 0) 1) placed blank)
 
-  pub fine-all : all (fine count e r p n m) (below 64) ≡ soundRecords count e r p n m
+  pub fine-all : all (fine count ts) (below 64) ≡ soundRecords count ts
   unfolding soundRecords plain
   fine-all =
-      all-same (fine count e r p n m) (λ t. (leb (getD e t 0) 1 && leb (getD r t 0) 1) && soundThread count (threadIn e r p n m t)) 64 (λ t b. fine-is t)
-      ∙ all-both (λ t. leb (getD e t 0) 1 && leb (getD r t 0) 1) (λ t. soundThread count (threadIn e r p n m t)) 64
-      ∙ ap (λ (z : Bool). z && all (λ t. soundThread count (threadIn e r p n m t)) (below 64)) (all-both (λ t. leb (getD e t 0) 1) (λ t. leb (getD r t 0) 1) 64)
+      all-same (fine count ts) (λ t. (leb (getD (ts .exists) t 0) 1 && leb (getD (ts .ready) t 0) 1) && soundThread count (threadIn ts t)) 64 (λ t b. fine-is t)
+      ∙ all-both (λ t. leb (getD (ts .exists) t 0) 1 && leb (getD (ts .ready) t 0) 1) (λ t. soundThread count (threadIn ts t)) 64
+      ∙ ap (λ (z : Bool). z && all (λ t. soundThread count (threadIn ts t)) (below 64)) (all-both (λ t. leb (getD (ts .exists) t 0) 1) (λ t. leb (getD (ts .ready) t 0) 1) 64)

@@ -15,10 +15,10 @@ use Rattle.refusals.proofs.Laws.{same-number}
 use Rattle.sheet.specs.Settings.{W, withinLimits, refusedSettings}
 use Rattle.sheet.specs.declared.Settings.{Settings}
 use Rattle.sheet.proofs.Within.{not-refused, within-limits, limits-of}
-use Rattle.model.specs.Arrays.{stateOf, plain}
-use Rattle.model.specs.Sound as Model
+use Rattle.model.specs.Arrays.{Columns}
 use Rattle.model.specs.declared.Clock.{Clock}
 use Rattle.model.specs.Lent.{refusedArrays}
+use Rattle.soundness.specs.Refused.{soundIn}
 
 pub limits-accepted : (c : Settings) (o : Outcome) → o ≡ Accepted → outcomeOf o ≡ refusedSettings c → true ≡ withinLimits c
 limits-accepted c o e f = sym (not-refused c (sym f ∙ ap outcomeOf e))
@@ -36,24 +36,21 @@ limits-refused c o r e f = go (withinLimits c) refl
 
 -- ---- what is refused
 
-module _ (c : Settings) (u : List ℕ) (k : Clock) (e r p n m q h : List ℕ) where
-  abbrev pub fine : Bool
-  fine = plain e && plain r && Model.sound (stateOf c u k e r p n m q) h
-
-  pub refused-settings : withinLimits c ≡ false → 8 ≡ refusedArrays c u k e r p n m q h
+module _ (c : Settings) (u : List ℕ) (k : Clock) (ts : Columns) (q h : List ℕ) where
+  pub refused-settings : withinLimits c ≡ false → 8 ≡ refusedArrays c u k ts q h
   unfolding refusedArrays
   refused-settings x = rw x
 
   module _ (within : withinLimits c ≡ true) where
-    pub refused-short : length h < c .count * W c → 7 ≡ refusedArrays c u k e r p n m q h
+    pub refused-short : length h < c .count * W c → 7 ≡ refusedArrays c u k ts q h
     unfolding refusedArrays
     refused-short x = rw (within, lt-ltb (length h) (c .count * W c) x)
 
-    pub refused-sound : (b : Bool) → c .count * W c ≤ length h → b ≡ fine → b ≡ true → 0 ≡ refusedArrays c u k e r p n m q h
+    pub refused-sound : (b : Bool) → c .count * W c ≤ length h → b ≡ soundIn c u k ts q h → b ≡ true → 0 ≡ refusedArrays c u k ts q h
     unfolding refusedArrays
     refused-sound b x y z = rw (within, le-ltb (length h) (c .count * W c) x, sym y ∙ z)
 
-    pub refused-unsound : (b : Bool) → c .count * W c ≤ length h → b ≡ fine → b ≡ false → 8 ≡ refusedArrays c u k e r p n m q h
+    pub refused-unsound : (b : Bool) → c .count * W c ≤ length h → b ≡ soundIn c u k ts q h → b ≡ false → 8 ≡ refusedArrays c u k ts q h
     unfolding refusedArrays
     refused-unsound b x y z = rw (within, le-ltb (length h) (c .count * W c) x, sym y ∙ z)
 

@@ -16,7 +16,7 @@ use Rattle.units.specs.declared.Cycles.{Cycles}
 use Rattle.sheet.specs.Settings.{W, C, share}
 use Rattle.sheet.specs.declared.Settings.{Settings}
 use Rattle.model.specs.State.{cycles, thread, allows, used, row, State, Thread}
-use Rattle.model.specs.Arrays.{flag, threadIn, stateOf, plain}
+use Rattle.model.specs.Arrays.{flag, Columns, threadIn, stateOf, plain}
 use Rattle.model.specs.Sound.{sameBool, slotSum, soundHistory, soundThread, soundQueue, soundRest, soundRunning}
 use Rattle.model.specs.declared.Clock.{Clock}
 use Rattle.model.proofs.Table.{thread-at, flag-on}
@@ -34,10 +34,10 @@ same-flag x b h = go (ℕ-discrete x 1) b
     go (no e) true = rw (ne-eqb x 1 e)
     go (no e) false = rw (ne-eqb x 1 e, eq-eqb x 0 (omega arith))
 
-module _ (c : Settings) (u : List ℕ) (k : Clock) (e r p n m q : List ℕ) where
+module _ (c : Settings) (u : List ℕ) (k : Clock) (ts : Columns) (q : List ℕ) where
   -- the state
   abbrev pub view : State
-  view = stateOf c u k e r p n m q
+  view = stateOf c u k ts q
 
   total-at : (i : ℕ) → used view i ≡ getD u i 0
   total-at i = ap (λ (x : Cycles). x .0) (List·getD-map cycles u i 0)
@@ -68,28 +68,28 @@ module _ (c : Settings) (u : List ℕ) (k : Clock) (e r p n m q : List ℕ) wher
       go true = rw (and-true inside)
       go false = rw (and-false inside)
 
-  pub threads-are : all (λ t. soundThread (c .count) (thread view t)) (below 64) ≡ all (λ t. soundThread (c .count) (threadIn e r p n m t)) (below 64)
+  pub threads-are : all (λ t. soundThread (c .count) (thread view t)) (below 64) ≡ all (λ t. soundThread (c .count) (threadIn ts t)) (below 64)
   threads-are =
-      all-same (λ t. soundThread (c .count) (thread view t)) (λ t. soundThread (c .count) (threadIn e r p n m t)) 64
-      (λ t b. ap (soundThread (c .count)) (thread-at e r p n m t b))
+      all-same (λ t. soundThread (c .count) (thread view t)) (λ t. soundThread (c .count) (threadIn ts t)) 64
+      (λ t b. ap (soundThread (c .count)) (thread-at ts t b))
 
   -- where every flag of a ready thread is 0 or 1 and every record is sound
-  module _ (flags : plain r ≡ true) (proper : all (λ t. soundThread (c .count) (threadIn e r p n m t)) (below 64) ≡ true) where
+  module _ (flags : plain (ts .ready) ≡ true) (proper : all (λ t. soundThread (c .count) (threadIn ts t)) (below 64) ≡ true) where
     agree : all (λ t. sameBool (thread view t .ready) (member t (take (k .queued) q))) (below 64)
-        ≡ all (λ t. eqb (getD r t 0) (flag (member t (take (k .queued) q)))) (below 64)
+        ≡ all (λ t. eqb (getD (ts .ready) t 0) (flag (member t (take (k .queued) q)))) (below 64)
     unfolding plain
     agree =
-        all-same (λ t. sameBool (thread view t .ready) (member t (take (k .queued) q))) (λ t. eqb (getD r t 0) (flag (member t (take (k .queued) q)))) 64
-        (λ t b. ap (λ (x : Thread). sameBool (x .ready) (member t (take (k .queued) q))) (thread-at e r p n m t b)
-        ∙ same-flag (getD r t 0) (member t (take (k .queued) q)) (leb-true _ _ (all-below (λ i. leb (getD r i 0) 1) 64 flags t b)))
+        all-same (λ t. sameBool (thread view t .ready) (member t (take (k .queued) q))) (λ t. eqb (getD (ts .ready) t 0) (flag (member t (take (k .queued) q)))) 64
+        (λ t b. ap (λ (x : Thread). sameBool (x .ready) (member t (take (k .queued) q))) (thread-at ts t b)
+        ∙ same-flag (getD (ts .ready) t 0) (member t (take (k .queued) q)) (leb-true _ _ (all-below (λ i. leb (getD (ts .ready) i 0) 1) 64 flags t b)))
 
     -- a ready thread exists
     exist : all (λ t. not (thread view t .ready) || thread view t .exists) (below 64) ≡ true
     unfolding soundThread
     exist =
         below-all (λ t. not (thread view t .ready) || thread view t .exists) 64
-        (λ t b. ap (λ (x : Thread). not (x .ready) || x .exists) (thread-at e r p n m t b)
-        ∙ go (eqb (getD e t 0) 1) (eqb (getD r t 0) 1) (getD p t 0) (getD n t 0) (getD m t 0) (all-below (λ i. soundThread (c .count) (threadIn e r p n m i)) 64 proper t b))
+        (λ t b. ap (λ (x : Thread). not (x .ready) || x .exists) (thread-at ts t b)
+        ∙ go (eqb (getD (ts .exists) t 0) 1) (eqb (getD (ts .ready) t 0) 1) (getD (ts .partitions) t 0) (getD (ts .priorities) t 0) (getD (ts .masks) t 0) (all-below (λ i. soundThread (c .count) (threadIn ts i)) 64 proper t b))
       where
         go : (x y : Bool) (i j l : ℕ) → soundThread (c .count) (record { exists = x; ready = y; partition = i; priority = j; mask = l }) ≡ true → (not y || x) ≡ true
         go true y i j l s = or-true (not y)
@@ -99,34 +99,34 @@ module _ (c : Settings) (u : List ℕ) (k : Clock) (e r p n m q : List ℕ) wher
             let (d, _) = both (not y) (eqb i 0) b in
             rw d
 
-    pub queue-is : soundQueue view ≡ holdsReady r q (k .queued)
+    pub queue-is : soundQueue view ≡ holdsReady (ts .ready) q (k .queued)
     unfolding soundQueue holdsReady
-    queue-is = rw (agree, exist, and-true (leb (k .queued) 64 && distinct (take (k .queued) q) && all (λ t. ltb t 64) (take (k .queued) q) && all (λ t. eqb (getD r t 0) (flag (member t (take (k .queued) q)))) (below 64)))
+    queue-is = rw (agree, exist, and-true (leb (k .queued) 64 && distinct (take (k .queued) q) && all (λ t. ltb t 64) (take (k .queued) q) && all (λ t. eqb (getD (ts .ready) t 0) (flag (member t (take (k .queued) q)))) (below 64)))
 
   -- where the ready flags say who is in the queue
-  pub running-is : holdsReady r q (k .queued) ≡ true → soundRunning view ≡ runningFits r m (k .running) (c .core)
+  pub running-is : holdsReady (ts .ready) q (k .queued) ≡ true → soundRunning view ≡ runningFits (ts .ready) (ts .masks) (k .running) (c .core)
   unfolding soundRunning runningFits holdsReady
   running-is x = go (decLt (k .running) 64)
     where
-      ts : List ℕ
-      ts = take (k .queued) q
+      line : List ℕ
+      line = take (k .queued) q
 
-      parts : (all (λ t. ltb t 64) ts ≡ true) × (all (λ t. eqb (getD r t 0) (flag (member t ts))) (below 64) ≡ true)
+      parts : (all (λ t. ltb t 64) line ≡ true) × (all (λ t. eqb (getD (ts .ready) t 0) (flag (member t line))) (below 64) ≡ true)
       parts =
-          let (a, _) = both (leb (k .queued) 64 && distinct ts && all (λ t. ltb t 64) ts && all (λ t. eqb (getD r t 0) (flag (member t ts))) (below 64)) (all (eqb 0) (drop (k .queued) q)) x in
-          let (b, ready) = both (leb (k .queued) 64 && distinct ts && all (λ t. ltb t 64) ts) (all (λ t. eqb (getD r t 0) (flag (member t ts))) (below 64)) a in
-          let (_, low) = both (leb (k .queued) 64 && distinct ts) (all (λ t. ltb t 64) ts) b in
+          let (a, _) = both (leb (k .queued) 64 && distinct line && all (λ t. ltb t 64) line && all (λ t. eqb (getD (ts .ready) t 0) (flag (member t line))) (below 64)) (all (eqb 0) (drop (k .queued) q)) x in
+          let (b, ready) = both (leb (k .queued) 64 && distinct line && all (λ t. ltb t 64) line) (all (λ t. eqb (getD (ts .ready) t 0) (flag (member t line))) (below 64)) a in
+          let (_, low) = both (leb (k .queued) 64 && distinct line) (all (λ t. ltb t 64) line) b in
           (low, ready)
 
-      outside : (z : Bool) → member (k .running) ts ≡ z → 64 ≤ k .running → z ≡ false
-      outside true y far = clash (all-member (λ t. ltb t 64) ts (parts .0) (k .running) y) (le-ltb (k .running) 64 far)
+      outside : (z : Bool) → member (k .running) line ≡ z → 64 ≤ k .running → z ≡ false
+      outside true y far = clash (all-member (λ t. ltb t 64) line (parts .0) (k .running) y) (le-ltb (k .running) 64 far)
       outside false y far = refl
 
-      go : Dec (k .running < 64) → (eqb (k .running) 255 || (member (k .running) ts && allows (thread view (k .running) .mask) (c .core)))
-          ≡ (eqb (k .running) 255 || (ltb (k .running) 64 && eqb (getD r (k .running) 0) 1 && allows (getD m (k .running) 0) (c .core)))
+      go : Dec (k .running < 64) → (eqb (k .running) 255 || (member (k .running) line && allows (thread view (k .running) .mask) (c .core)))
+          ≡ (eqb (k .running) 255 || (ltb (k .running) 64 && eqb (getD (ts .ready) (k .running) 0) 1 && allows (getD (ts .masks) (k .running) 0) (c .core)))
       go (yes b) =
           let t : ℕ = k .running in
-          let held : getD r t 0 ≡ flag (member t ts) = eqb-true _ _ (all-below (λ i. eqb (getD r i 0) (flag (member i ts))) 64 (parts .1) t b) in
-          let on : eqb (getD r t 0) 1 ≡ member t ts = ap (λ (x : ℕ). eqb x 1) held ∙ flag-on (member t ts) in
-          rw (lt-ltb t 64 b, on, thread-at e r p n m t b)
-      go (no b) = rw (le-ltb (k .running) 64 (omega arith), outside (member (k .running) ts) refl (omega arith))
+          let held : getD (ts .ready) t 0 ≡ flag (member t line) = eqb-true _ _ (all-below (λ i. eqb (getD (ts .ready) i 0) (flag (member i line))) 64 (parts .1) t b) in
+          let on : eqb (getD (ts .ready) t 0) 1 ≡ member t line = ap (λ (x : ℕ). eqb x 1) held ∙ flag-on (member t line) in
+          rw (lt-ltb t 64 b, on, thread-at ts t b)
+      go (no b) = rw (le-ltb (k .running) 64 (omega arith), outside (member (k .running) line) refl (omega arith))

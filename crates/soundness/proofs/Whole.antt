@@ -11,14 +11,14 @@ use Rattle.lists.proofs.Tests.{both, and, same}
 use Rattle.sheet.specs.Settings.{W, C, withinLimits}
 use Rattle.sheet.specs.declared.Settings.{Settings}
 use Rattle.model.specs.State.{thread, allows}
-use Rattle.model.specs.Arrays.{threadIn, plain}
+use Rattle.model.specs.Arrays.{Columns, threadIn, plain, flagsFit}
 use Rattle.model.specs.Sound as Model
 use Rattle.model.specs.Sound.{soundRest, soundHistory, soundThread, soundQueue, soundRunning}
 use Rattle.model.specs.declared.Clock.{Clock}
 use Rattle.soundness.specs.Sums.{booksAgree}
 use Rattle.soundness.specs.Records.{soundRecords}
 use Rattle.soundness.specs.Queue.{holdsReady}
-use Rattle.soundness.specs.Refused.{restZero, runningFits}
+use Rattle.soundness.specs.Refused.{restZero, runningFits, soundIn}
 use Rattle.soundness.proofs.Views.{view, rest-is, books-is, threads-are, queue-is, running-is}
 
 -- ---- the running thread's tests
@@ -38,7 +38,7 @@ module _ (r m : List ℕ) (t core : ℕ) where
 
 -- ---- the whole
 
-module _ (c : Settings) (u : List ℕ) (k : Clock) (e r p n m q h : List ℕ) where
+module _ (c : Settings) (u : List ℕ) (k : Clock) (ts : Columns) (q h : List ℕ) where
   abbrev books : Bool
   books = booksAgree h u (W c) (c .count) (k .slot .0) (2 * C c) (k .since .0)
 
@@ -46,73 +46,70 @@ module _ (c : Settings) (u : List ℕ) (k : Clock) (e r p n m q h : List ℕ) wh
   early = leb (k .since .0) (2 * C c)
 
   abbrev runs : Bool
-  runs = runningFits r m (k .running) (c .core)
+  runs = runningFits (ts .ready) (ts .masks) (k .running) (c .core)
 
   abbrev every : Bool
-  every = all (λ t. soundThread (c .count) (threadIn e r p n m t)) (below 64)
+  every = all (λ t. soundThread (c .count) (threadIn ts t)) (below 64)
 
   abbrev tested : Bool
-  tested = soundRecords (c .count) e r p n m && holdsReady r q (k .queued) && (early && restZero c u && runs && books)
+  tested = soundRecords (c .count) ts && holdsReady (ts .ready) q (k .queued) && (early && restZero c u && runs && books)
 
-  abbrev pub sought : Bool
-  sought = plain e && plain r && Model.sound (view c u k e r p n m q) h
-
-  to : withinLimits c ≡ true → tested ≡ true → sought ≡ true
+  to : withinLimits c ≡ true → tested ≡ true → soundIn c u k ts q h ≡ true
   unfolding Model.sound soundRecords
   to limits x =
-      let (x₁, x₂) = both (soundRecords (c .count) e r p n m && holdsReady r q (k .queued)) (early && restZero c u && runs && books) x in
-      let (records, queue) = both (soundRecords (c .count) e r p n m) (holdsReady r q (k .queued)) x₁ in
-      let (flags, proper) = both (plain e && plain r) every records in
-      let (plain-e, plain-r) = both (plain e) (plain r) flags in
+      let (x₁, x₂) = both (soundRecords (c .count) ts && holdsReady (ts .ready) q (k .queued)) (early && restZero c u && runs && books) x in
+      let (records, queue) = both (soundRecords (c .count) ts) (holdsReady (ts .ready) q (k .queued)) x₁ in
+      let (flags, proper) = both (flagsFit ts) every records in
+      let (_, plain-r) = both (plain (ts .exists)) (plain (ts .ready)) flags in
       let (x₃, history) = both (early && restZero c u && runs) books x₂ in
       let (x₄, running) = both (early && restZero c u) runs x₃ in
       let (since, rest) = both early (restZero c u) x₄ in
       and flags
       (and (and (and (and (and limits
-      (rest-is c u k e r p n m q ∙ rest))
-      (books-is c u k e r p n m q h ∙ and since history))
-      (threads-are c u k e r p n m q ∙ proper))
-      (queue-is c u k e r p n m q plain-r proper ∙ queue))
-      (running-is c u k e r p n m q queue ∙ running))
+      (rest-is c u k ts q ∙ rest))
+      (books-is c u k ts q h ∙ and since history))
+      (threads-are c u k ts q ∙ proper))
+      (queue-is c u k ts q plain-r proper ∙ queue))
+      (running-is c u k ts q queue ∙ running))
 
-  from : sought ≡ true → tested ≡ true
+  from : soundIn c u k ts q h ≡ true → tested ≡ true
   unfolding Model.sound soundRecords
   from x =
-      let s = view c u k e r p n m q in
+      let s = view c u k ts q in
       let threads : Bool = all (λ t. soundThread (c .count) (thread s t)) (below 64) in
-      let (flags, y) = both (plain e && plain r) (Model.sound s h) x in
-      let (plain-e, plain-r) = both (plain e) (plain r) flags in
+      let (flags, y) = both (flagsFit ts) (Model.sound s h) x in
+      let (_, plain-r) = both (plain (ts .exists)) (plain (ts .ready)) flags in
       let (y₁, running) = both (withinLimits c && soundRest s && soundHistory s h && threads && soundQueue s) (soundRunning s) y in
       let (y₂, queue) = both (withinLimits c && soundRest s && soundHistory s h && threads) (soundQueue s) y₁ in
       let (y₃, proper) = both (withinLimits c && soundRest s && soundHistory s h) threads y₂ in
       let (y₄, history) = both (withinLimits c && soundRest s) (soundHistory s h) y₃ in
       let (_, rest) = both (withinLimits c) (soundRest s) y₄ in
-      let proper′ : every ≡ true = sym (threads-are c u k e r p n m q) ∙ proper in
-      let queue′ : holdsReady r q (k .queued) ≡ true = sym (queue-is c u k e r p n m q plain-r proper′) ∙ queue in
-      let (since, history′) = both early books (sym (books-is c u k e r p n m q h) ∙ history) in
+      let proper′ : every ≡ true = sym (threads-are c u k ts q) ∙ proper in
+      let queue′ : holdsReady (ts .ready) q (k .queued) ≡ true = sym (queue-is c u k ts q plain-r proper′) ∙ queue in
+      let (since, history′) = both early books (sym (books-is c u k ts q h) ∙ history) in
       and (and (and flags proper′) queue′)
-      (and (and (and since (sym (rest-is c u k e r p n m q) ∙ rest))
-      (sym (running-is c u k e r p n m q queue′) ∙ running))
+      (and (and (and since (sym (rest-is c u k ts q) ∙ rest))
+      (sym (running-is c u k ts q queue′) ∙ running))
       history′)
 
-  whole : withinLimits c ≡ true → tested ≡ sought
-  whole limits = same tested sought (to limits) from
+  whole : withinLimits c ≡ true → tested ≡ soundIn c u k ts q h
+  whole limits = same tested (soundIn c u k ts q h) (to limits) from
 
   -- the three ways out
   module _ (limits : withinLimits c ≡ true) where
-    pub bad-records : (a : Bool) → a ≡ soundRecords (c .count) e r p n m → a ≡ false → false ≡ sought
+    pub bad-records : (a : Bool) → a ≡ soundRecords (c .count) ts → a ≡ false → false ≡ soundIn c u k ts q h
     bad-records a x y =
-        let z : soundRecords (c .count) e r p n m ≡ false = sym x ∙ y in
+        let z : soundRecords (c .count) ts ≡ false = sym x ∙ y in
         rw z at (whole limits)
 
-    pub bad-queue : (a : Bool) → a ≡ holdsReady r q (k .queued) → a ≡ false → false ≡ sought
+    pub bad-queue : (a : Bool) → a ≡ holdsReady (ts .ready) q (k .queued) → a ≡ false → false ≡ soundIn c u k ts q h
     bad-queue a x y =
-        let z : holdsReady r q (k .queued) ≡ false = sym x ∙ y in
-        rw (z, and-false (soundRecords (c .count) e r p n m)) at (whole limits)
+        let z : holdsReady (ts .ready) q (k .queued) ≡ false = sym x ∙ y in
+        rw (z, and-false (soundRecords (c .count) ts)) at (whole limits)
 
-    pub last-parts : (a b : Bool) (f g i : Bool) → a ≡ soundRecords (c .count) e r p n m → a ≡ true → b ≡ holdsReady r q (k .queued) → b ≡ true
-        → f ≡ restZero c u → g ≡ runs → i ≡ books → (early && f && g && i) ≡ sought
+    pub last-parts : (a b : Bool) (f g i : Bool) → a ≡ soundRecords (c .count) ts → a ≡ true → b ≡ holdsReady (ts .ready) q (k .queued) → b ≡ true
+        → f ≡ restZero c u → g ≡ runs → i ≡ books → (early && f && g && i) ≡ soundIn c u k ts q h
     last-parts a b f g i x₁ y₁ x₂ y₂ x₃ x₄ x₅ =
-        let z₁ : soundRecords (c .count) e r p n m ≡ true = sym x₁ ∙ y₁ in
-        let z₂ : holdsReady r q (k .queued) ≡ true = sym x₂ ∙ y₂ in
+        let z₁ : soundRecords (c .count) ts ≡ true = sym x₁ ∙ y₁ in
+        let z₂ : holdsReady (ts .ready) q (k .queued) ≡ true = sym x₂ ∙ y₂ in
         rw (x₃, x₄, x₅) (rw (z₁, z₂) at (whole limits))

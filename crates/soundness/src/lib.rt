@@ -9,15 +9,14 @@ use refusals::Refusal;
 use sheet::Settings;
 use threads::masks;
 ghost use mathlib.Core.Path.{_≡_};
-ghost use mathlib.Core.Bool.{_&&_, true};
+ghost use mathlib.Core.Bool.{true};
 ghost use Prim.Native.Nat.{_*_, _≤_};
 ghost use lib.ListN.{length};
 ghost use Rattle.refusals.specs.Refusals.{outcomeOf};
 ghost use Rattle.sheet.specs.Settings.{W, withinLimits};
-ghost use Rattle.model.specs.Arrays.{stateOf, plain};
-ghost use Rattle.model.specs.Sound as Model;
+ghost use Rattle.model.specs.Arrays.{columns};
 ghost use Rattle.model.specs.Lent.{refusedArrays};
-ghost use Rattle.soundness.specs.Refused.{restZero, runningFits};
+ghost use Rattle.soundness.specs.Refused.{restZero, runningFits, soundIn};
 
 // The settings are within the sheet's limits.
 fn within_limits(settings: Settings) -> bool
@@ -75,10 +74,7 @@ fn sound(
 ) -> bool
     requires { ⌜ (withinLimits settings ≡ true) × (settings .count * W settings ≤ length (now history)) ⌝ }
     ensures { λ b. ⌜
-        b ≡ (plain (now (exists .entry)) && plain (now (ready .entry))
-        && Model.sound
-        (stateOf settings (now (used .entry)) clock (now (exists .entry)) (now (ready .entry)) (now (partitions .entry)) (now (priorities .entry)) (now (masks .entry)) (now (queue .entry)))
-        (now (history .entry)))
+        b ≡ soundIn settings (now (used .entry)) clock (columns (now (exists .entry)) (now (ready .entry)) (now (partitions .entry)) (now (priorities .entry)) (now (masks .entry))) (now (queue .entry)) (now (history .entry))
         ⌝ }
 {
     let few = settings.count as u8;
@@ -115,7 +111,7 @@ pub fn refused_state(
     history: &[u32],
 ) -> Outcome
     ensures { λ b. ⌜
-        outcomeOf b ≡ refusedArrays settings (now (used .entry)) clock (now (exists .entry)) (now (ready .entry)) (now (partitions .entry)) (now (priorities .entry)) (now (masks .entry)) (now (queue .entry)) (now (history .entry))
+        outcomeOf b ≡ refusedArrays settings (now (used .entry)) clock (columns (now (exists .entry)) (now (ready .entry)) (now (partitions .entry)) (now (priorities .entry)) (now (masks .entry))) (now (queue .entry)) (now (history .entry))
         ⌝ }
 {
     if !within_limits(settings) {

@@ -1,5 +1,6 @@
 // The threads' records, which five lent arrays hold: whether each is sound.
 ghost use mathlib.Core.Path.{_≡_};
+ghost use Rattle.model.specs.Arrays.{columns};
 ghost use Rattle.soundness.specs.Records.{soundRecords};
 
 // "existing threads with a valid partition and a mask other than 0", "records of absent threads .. all zero", and each flag 0 or 1. One pass
@@ -13,7 +14,7 @@ pub fn sound_threads(
     count: u8,
 ) -> bool
     ensures { λ b. ⌜
-        b ≡ soundRecords count (now (exists .entry)) (now (ready .entry)) (now (partitions .entry)) (now (priorities .entry)) (now (masks .entry))
+        b ≡ soundRecords count (columns (now (exists .entry)) (now (ready .entry)) (now (partitions .entry)) (now (priorities .entry)) (now (masks .entry)))
         ⌝ }
 {
     let mut ok = true;

@@ -11,8 +11,9 @@ use types.Run.{OneOf}
 use Rattle.model.specs.State.{absent, thread, State, Thread}
 use Rattle.model.specs.Event.{kindOf, threadOf, partitionOf, priorityOf, maskOf, known}
 use Rattle.model.specs.Step.{withThread, withReady, withPriority, created, joins, goes, leaves, act}
-use Rattle.model.specs.Arrays.{Regular, Tables, withTables}
-use Rattle.model.proofs.Table.{plain-put}
+use Rattle.lists.proofs.Tests.{both}
+use Rattle.model.specs.Arrays.{flag, plain, Columns, withReadyColumn, withPriorityColumn, Sized, Regular, Tables, withTables}
+use Rattle.model.proofs.Table.{plain-put, putRecord, flag-low}
 use Rattle.threads.specs.Entries.{queueIn, queueFrom}
 use Rattle.threads.specs.Able.{Acted}
 use Rattle.event.proofs.kinds.Action
@@ -80,41 +81,56 @@ module _ (old : Tables) (b : List ℕ) (ts : List Thread) where
       → queueIn q n ≡ queueFrom (leaves (take (old .queued) (old .queue)) (threadOf b)) → Acted old (record { threads = ts; queue = q; queued = n }) b
   acted-end q n k e f s = settled ts _ q n _ e f s ∙ sym (act-end (withTables s old) b k)
 
--- ---- the arrays keep their lengths, and flags stay flags
+-- ---- the columns keep their lengths, and flags stay flags
 
-module _ (e r p n m : List ℕ) (s : Regular e r p n m) (t : ℕ) (h : t < 64) where
-  pub regular-all : (a b c d f : ℕ) → a ≤ 1 → b ≤ 1 → Regular (set e t a) (set r t b) (set p t c) (set n t d) (set m t f)
-  regular-all a b c d f x y = record {
-    exists = length-set e t a ∙ s .exists;
-    ready = length-set r t b ∙ s .ready;
-    partitions = length-set p t c ∙ s .partitions;
-    priorities = length-set n t d ∙ s .priorities;
-    masks = length-set m t f ∙ s .masks;
-    exists-plain = plain-put e t a (s .exists) h x (s .exists-plain);
-    ready-plain = plain-put r t b (s .ready) h y (s .ready-plain);
-  }
+module _ (ts : Columns) (s : Regular ts) (t : ℕ) (h : t < 64) where
+  flags : (plain (ts .exists) ≡ true) × (plain (ts .ready) ≡ true)
+  flags = both (plain (ts .exists)) (plain (ts .ready)) (s .flags)
 
-  pub regular-ready : (r′ : List ℕ) (v : ℕ) → v ≤ 1 → r′ ≡ set r t v → Regular e r′ p n m
-  regular-ready r′ v x i = record {
-    exists = s .exists;
-    ready = ap length i ∙ length-set r t v ∙ s .ready;
-    partitions = s .partitions;
-    priorities = s .priorities;
-    masks = s .masks;
-    exists-plain = s .exists-plain;
-    ready-plain = rw i (plain-put r t v (s .ready) h x (s .ready-plain));
-  }
+  pub regular-all : (x : Thread) → Regular (putRecord ts t x)
+  regular-all x =
+      let z : Sized ts = s .sized in
+      record {
+        sized = record {
+          exists = length-set (ts .exists) t (flag (x .exists)) ∙ z .exists;
+          ready = length-set (ts .ready) t (flag (x .ready)) ∙ z .ready;
+          partitions = length-set (ts .partitions) t (x .partition) ∙ z .partitions;
+          priorities = length-set (ts .priorities) t (x .priority) ∙ z .priorities;
+          masks = length-set (ts .masks) t (x .mask) ∙ z .masks;
+        };
+        flags = rw (
+          plain-put (ts .exists) t (flag (x .exists)) (z .exists) h (flag-low (x .exists)) (flags .0),
+          plain-put (ts .ready) t (flag (x .ready)) (z .ready) h (flag-low (x .ready)) (flags .1),
+        );
+      }
 
-  pub regular-priority : (n′ : List ℕ) (v : ℕ) → n′ ≡ set n t v → Regular e r p n′ m
-  regular-priority n′ v i = record {
-    exists = s .exists;
-    ready = s .ready;
-    partitions = s .partitions;
-    priorities = ap length i ∙ length-set n t v ∙ s .priorities;
-    masks = s .masks;
-    exists-plain = s .exists-plain;
-    ready-plain = s .ready-plain;
-  }
+  pub regular-ready : (r′ : List ℕ) (v : ℕ) → v ≤ 1 → r′ ≡ set (ts .ready) t v → Regular (withReadyColumn ts r′)
+  regular-ready r′ v x i =
+      let z : Sized ts = s .sized in
+      record {
+        sized = record {
+          exists = z .exists;
+          ready = ap length i ∙ length-set (ts .ready) t v ∙ z .ready;
+          partitions = z .partitions;
+          priorities = z .priorities;
+          masks = z .masks;
+        };
+        flags = rw (i, flags .0, plain-put (ts .ready) t v (z .ready) h x (flags .1));
+      }
+
+  pub regular-priority : (n′ : List ℕ) (v : ℕ) → n′ ≡ set (ts .priorities) t v → Regular (withPriorityColumn ts n′)
+  regular-priority n′ v i =
+      let z : Sized ts = s .sized in
+      record {
+        sized = record {
+          exists = z .exists;
+          ready = z .ready;
+          partitions = z .partitions;
+          priorities = ap length i ∙ length-set (ts .priorities) t v ∙ z .priorities;
+          masks = z .masks;
+        };
+        flags = s .flags;
+      }
 
 -- ---- an action's own number
 

@@ -6,16 +6,16 @@ use mathlib.Core.List.{List}
 use lib.ListN.{take}
 use Rattle.lists.specs.Lists.{distinct}
 use Rattle.model.specs.State.{State}
-use Rattle.model.specs.Arrays.{Regular, Tables, withTables}
+use Rattle.model.specs.Arrays.{Columns, Regular, Tables, withTables}
 use Rattle.model.specs.Event.{kindOf, threadOf, create, ready, end}
 use Rattle.model.specs.Step.{act}
 use Rattle.threads.specs.Entries.{QueueStored}
 
 -- what an accepted event on a sound state has: a thread number below 64 where the kind names a thread, a queue without repeats,
 -- and room in it for a thread that becomes ready
-pub record Able (e r p n m q : List ℕ) (k : ℕ) (b : List ℕ) : Type 0 where
+pub record Able (ts : Columns) (q : List ℕ) (k : ℕ) (b : List ℕ) : Type 0 where
   pub thread-inside : create ≤ kindOf b → kindOf b ≤ end → threadOf b < 64
-  pub sizes : Regular e r p n m
+  pub sizes : Regular ts
   pub stored : QueueStored q k
   pub few : k ≤ 64
   pub once : distinct (take k q) ≡ true

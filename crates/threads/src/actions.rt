@@ -11,7 +11,7 @@ ghost use lib.ListN.{take, set};
 ghost use Rattle.lists.specs.Lists.{distinct};
 ghost use Rattle.model.specs.State.{absent};
 ghost use Rattle.model.specs.Step.{created, leaves};
-ghost use Rattle.model.specs.Arrays.{threadsIn, tablesIn, Regular};
+ghost use Rattle.model.specs.Arrays.{columns, threadsIn, tablesIn, Regular};
 ghost use Rattle.threads.specs.Entries.{QueueStored, queueIn, queueFrom};
 ghost use Rattle.event.specs.Bytes.{bytesOf};
 ghost use Rattle.threads.specs.Able.{Able, Acted};
@@ -28,12 +28,12 @@ fn create(
     priority: u8,
     mask: u8,
 )
-    requires { ⌜ (t < 64) × Regular (now exists) (now ready) (now partitions) (now priorities) (now masks) ⌝ }
+    requires { ⌜ (t < 64) × Regular (columns (now exists) (now ready) (now partitions) (now priorities) (now masks)) ⌝ }
     ensures { λ _. ⌜
-        (threadsIn (now (exists .exit)) (now (ready .exit)) (now (partitions .exit)) (now (priorities .exit)) (now (masks .exit))
-        ≡ set (threadsIn (now (exists .entry)) (now (ready .entry)) (now (partitions .entry)) (now (priorities .entry)) (now (masks .entry))) t
+        (threadsIn (columns (now (exists .exit)) (now (ready .exit)) (now (partitions .exit)) (now (priorities .exit)) (now (masks .exit)))
+        ≡ set (threadsIn (columns (now (exists .entry)) (now (ready .entry)) (now (partitions .entry)) (now (priorities .entry)) (now (masks .entry)))) t
         (created partition priority mask))
-        × Regular (now (exists .exit)) (now (ready .exit)) (now (partitions .exit)) (now (priorities .exit)) (now (masks .exit))
+        × Regular (columns (now (exists .exit)) (now (ready .exit)) (now (partitions .exit)) (now (priorities .exit)) (now (masks .exit)))
         ⌝ }
 {
     let at = t as usize;
@@ -88,12 +88,12 @@ fn forget(
     masks: &mut [u8; 64],
     t: u8,
 )
-    requires { ⌜ (t < 64) × Regular (now exists) (now ready) (now partitions) (now priorities) (now masks) ⌝ }
+    requires { ⌜ (t < 64) × Regular (columns (now exists) (now ready) (now partitions) (now priorities) (now masks)) ⌝ }
     ensures { λ _. ⌜
-        (threadsIn (now (exists .exit)) (now (ready .exit)) (now (partitions .exit)) (now (priorities .exit)) (now (masks .exit))
-        ≡ set (threadsIn (now (exists .entry)) (now (ready .entry)) (now (partitions .entry)) (now (priorities .entry)) (now (masks .entry))) t
+        (threadsIn (columns (now (exists .exit)) (now (ready .exit)) (now (partitions .exit)) (now (priorities .exit)) (now (masks .exit)))
+        ≡ set (threadsIn (columns (now (exists .entry)) (now (ready .entry)) (now (partitions .entry)) (now (priorities .entry)) (now (masks .entry)))) t
         absent)
-        × Regular (now (exists .exit)) (now (ready .exit)) (now (partitions .exit)) (now (priorities .exit)) (now (masks .exit))
+        × Regular (columns (now (exists .exit)) (now (ready .exit)) (now (partitions .exit)) (now (priorities .exit)) (now (masks .exit)))
         ⌝ }
 {
     let at = t as usize;
@@ -115,13 +115,13 @@ pub fn act(
     queued: u32,
     event: Event,
 ) -> u32
-    requires { ⌜ Able (now exists) (now ready) (now partitions) (now priorities) (now masks) (now queue) queued (bytesOf event) ⌝ }
+    requires { ⌜ Able (columns (now exists) (now ready) (now partitions) (now priorities) (now masks)) (now queue) queued (bytesOf event) ⌝ }
     ensures { λ r. ⌜
         Acted
-        (tablesIn (now (exists .entry)) (now (ready .entry)) (now (partitions .entry)) (now (priorities .entry)) (now (masks .entry)) (now (queue .entry)) queued)
-        (tablesIn (now (exists .exit)) (now (ready .exit)) (now (partitions .exit)) (now (priorities .exit)) (now (masks .exit)) (now (queue .exit)) r)
+        (tablesIn (columns (now (exists .entry)) (now (ready .entry)) (now (partitions .entry)) (now (priorities .entry)) (now (masks .entry))) (now (queue .entry)) queued)
+        (tablesIn (columns (now (exists .exit)) (now (ready .exit)) (now (partitions .exit)) (now (priorities .exit)) (now (masks .exit))) (now (queue .exit)) r)
         (bytesOf event)
-        × Regular (now (exists .exit)) (now (ready .exit)) (now (partitions .exit)) (now (priorities .exit)) (now (masks .exit))
+        × Regular (columns (now (exists .exit)) (now (ready .exit)) (now (partitions .exit)) (now (priorities .exit)) (now (masks .exit)))
         ⌝ }
 {
     let t = event.thread;

@@ -3,6 +3,7 @@ use denote.Ref.{now}
 use Rattle.refusals.specs.Refusals.{outcomeOf}
 use Rattle.model.specs.Answers.{decidedOf}
 use Rattle.model.specs.Lent.{Lent, lent}
+use Rattle.model.specs.Arrays.{columns}
 use Rattle.doors.specs.Inner.{Room}
 use Rattle.doors.proofs.Entering.{begins, regular, settled}
 use Rattle.doors.proofs.Lending.{room}
@@ -18,7 +19,7 @@ start c = c .before .before .before .before .before
 abbrev given : tie.After-refused-state → Lent
 given c =
     let a = start c .args in
-    lent (now (a .settings)) (now (a .shares)) (now (a .used)) (now (a .clock)) (now (a .exists)) (now (a .ready)) (now (a .partitions)) (now (a .priorities)) (now (a .masks)) (now (a .queue)) (now (a .history))
+    lent (now (a .settings)) (now (a .shares)) (now (a .used)) (now (a .clock)) (columns (now (a .exists)) (now (a .ready)) (now (a .partitions)) (now (a .priorities)) (now (a .masks))) (now (a .queue)) (now (a .history))
 
 abbrev read : tie.After-refused-state → tie.After-settings-in
 read c = c .before .before .before
@@ -27,11 +28,11 @@ abbrev timed : tie.After-refused-state → tie.After-clock-in
 timed c = c .before .before
 
 ready-room : (c : tie.After-refused-state)
-    → Room (read c .settings-in .result) (given c .used) (given c .exists) (given c .ready) (given c .partitions) (given c .priorities) (given c .masks) (given c .queue)
+    → Room (read c .settings-in .result) (given c .used) (given c .threads) (given c .queue)
 ready-room c =
     let z = c .before .sized .ensures in
     let x = given c in
-    room (read c .settings-in .result) (x .settings) (x .shares) (x .used) (x .exists) (x .ready) (x .partitions) (x .priorities) (x .masks) (x .queue) (read c .settings-in .ensures) (z .0) (z .1) (z .2)
+    room (read c .settings-in .result) (x .settings) (x .shares) (x .used) (x .threads) (x .queue) (read c .settings-in .ensures) (z .0) (z .1) (z .2)
 
 settings-in-requires : tie.Need-settings-in-requires
 settings-in-requires c κs = search needs
@@ -54,7 +55,7 @@ enum-told c = search needs
 begin-requires : tie.Need-begin-requires
 begin-requires c κs =
     let t = c .before .before .before .before .before in
-    begins (read t .settings-in .result) (given t .used) (timed t .clock-in .result) (given t .exists) (given t .ready) (given t .partitions) (given t .priorities) (given t .masks) (given t .queue) (given t .history) (ready-room t) (sym (t .refused-state .ensures) ∙ ap outcomeOf (c .before .before .before .enum-told .given .1))
+    begins (read t .settings-in .result) (given t .used) (timed t .clock-in .result) (given t .threads) (given t .queue) (given t .history) (ready-room t) (sym (t .refused-state .ensures) ∙ ap outcomeOf (c .before .before .before .enum-told .given .1))
 
 choose-requires : tie.Need-choose-requires
 choose-requires c κs = search needs
@@ -73,7 +74,7 @@ returns-2 c =
     let x = given t in
     let b = c .before .before .before .before .begin in
     decision-yes (given t) (read t .settings-in .result) (timed t .clock-in .result) (read t .settings-in .ensures) (timed t .clock-in .ensures) (t .refused-state .result) (t .refused-state .ensures) f (decidedOf (c .choose .result))
-    (c .choose .ensures (timed t .clock-in .result) (x .exists) (x .ready) (x .partitions) (x .priorities) (x .masks) (x .queue) (x .history) (regular (read t .settings-in .result) (given t .used) (timed t .clock-in .result) (given t .exists) (given t .ready) (given t .partitions) (given t .priorities) (given t .masks) (given t .queue) (given t .history) (ready-room t) z) (settled (read t .settings-in .result) (given t .used) (timed t .clock-in .result) (given t .exists) (given t .ready) (given t .partitions) (given t .priorities) (given t .masks) (given t .queue) (given t .history) (ready-room t) z) (b .ensures))
+    (c .choose .ensures (timed t .clock-in .result) (x .threads) (x .queue) (x .history) (regular (read t .settings-in .result) (given t .used) (timed t .clock-in .result) (given t .threads) (given t .queue) (given t .history) (ready-room t) z) (settled (read t .settings-in .result) (given t .used) (timed t .clock-in .result) (given t .threads) (given t .queue) (given t .history) (ready-room t) z) (b .ensures))
 
 pub decision-spec : {M : Type 1} → statement M
 decision-spec =

@@ -10,6 +10,7 @@ use Rattle.sheet.specs.Settings.{Limits}
 use Rattle.sheet.proofs.Within.{share-most}
 use Rattle.units.proofs.Laws.{remaining-fits}
 use Rattle.model.specs.Lent.{Lent, lent}
+use Rattle.model.specs.Arrays.{columns}
 use Rattle.doors.proofs.Looking.{limits, used-low, remaining-no, remaining-place, remaining-yes}
 use borrow.Author.Needs.{needs}
 use Rattle.doors.proofs.queries.remaining.Statement.{statement}
@@ -22,7 +23,7 @@ start c = c .before .before .before .before
 abbrev given : tie.After-refused-state → Lent
 given c =
     let a = start c .args in
-    lent (now (a .settings)) (now (a .shares)) (now (a .used)) (now (a .clock)) (now (a .exists)) (now (a .ready)) (now (a .partitions)) (now (a .priorities)) (now (a .masks)) (now (a .queue)) (now (a .history))
+    lent (now (a .settings)) (now (a .shares)) (now (a .used)) (now (a .clock)) (columns (now (a .exists)) (now (a .ready)) (now (a .partitions)) (now (a .priorities)) (now (a .masks))) (now (a .queue)) (now (a .history))
 
 abbrev read : tie.After-refused-state → tie.After-settings-in
 read c = c .before .before

@@ -3,6 +3,7 @@ use native.Mathlib.Nat.{mul-le-mul}
 use denote.Ref.{now}
 use Rattle.sheet.specs.Settings.{Limits}
 use Rattle.model.specs.Lent.{Lent, lent}
+use Rattle.model.specs.Arrays.{columns}
 use Rattle.doors.proofs.Starting.{begun-sheet, within, sixteen, begun-short, begun-yes}
 use borrow.Author.Needs.{needs}
 use Rattle.doors.proofs.start.start.Statement.{statement}
@@ -18,7 +19,7 @@ start c = read c .before .before .before
 abbrev given : tie.Start → Lent
 given c =
     let a = c .args in
-    lent (now (a .settings)) (now (a .shares)) (now (a .used)) (now (a .clock)) (now (a .exists)) (now (a .ready)) (now (a .partitions)) (now (a .priorities)) (now (a .masks)) (now (a .queue)) (now (a .history))
+    lent (now (a .settings)) (now (a .shares)) (now (a .used)) (now (a .clock)) (columns (now (a .exists)) (now (a .ready)) (now (a .partitions)) (now (a .priorities)) (now (a .masks))) (now (a .queue)) (now (a .history))
 
 limits : (c : tie.After-s) → Limits (read c .read-sheet .result .settings)
 limits c =

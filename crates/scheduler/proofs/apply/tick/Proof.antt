@@ -1,5 +1,6 @@
 use mathlib.Core.Path.{ap, _∙_}
 use denote.Ref.{now}
+use Rattle.model.specs.Arrays.{withPartitionColumn}
 use Rattle.sheet.specs.Settings.{C}
 use Rattle.model.specs.Step.{moveSlot}
 use Rattle.accounts.proofs.SolvencyLaws.{reweighed-twice}
@@ -23,7 +24,7 @@ returns c =
     let a = c .before .before .before .before .before .before .before .before .before .before .before .before .args in
     let d = c .before .before .before .before .before .before .before .before .pay in
     let f = c .before .before .move-slot in (
-      (λ e r n m q. f .ensures .0 e r (now (a .partitions)) n m q ∙ ap moveSlot (d .ensures .0 e r n m q)),
+      (λ ts q. f .ensures .0 (withPartitionColumn ts (now (a .partitions))) q ∙ ap moveSlot (d .ensures .0 ts q)),
       reweighed-twice (now (a .used)) (d .last .1 .0) (f .last .1 .0) (now (a .budgets)) (C (a .settings)) (a .solvent) (d .result .solvent) (f .result .solvent) (d .ensures .1) (f .ensures .1),
     )
 

@@ -5,7 +5,7 @@ use native.Mathlib.Omega.{arith}
 use borrow.Author.Needs.{needs}
 use lib.ListN.{length, drop, length-take, length-drop}
 use denote.Ref.{now}
-use Rattle.model.specs.Arrays.{stateOf}
+use Rattle.model.specs.Arrays.{columns, stateOf}
 use Rattle.model.specs.Step.{saved}
 use Rattle.model.specs.Run.{run, after}
 use Rattle.model.specs.Answers.{lineOf, textOf}
@@ -18,11 +18,11 @@ use Rattle.scheduler.proofs.batch.steps.Tie as tie
 
 abbrev Inv-loop : tie.InvT-loop
 Inv-loop settings used₀ exists₀ ready₀ partitions₀ priorities₀ masks₀ queue₀ budgets tops₀ firsts₀ history₀ events out₀ n t₀ kept₀ i₀ used exists ready partitions priorities masks queue tops firsts history out t kept i =
-    let v = saved (stateOf settings used₀ t₀ exists₀ ready₀ partitions₀ priorities₀ masks₀ queue₀) history₀ in
+    let v = saved (stateOf settings used₀ t₀ (columns exists₀ ready₀ partitions₀ priorities₀ masks₀) queue₀) history₀ in
     (i ≤ n) × (length history ≡ length history₀) × (length out ≡ length out₀)
-    × (saved (stateOf settings used t exists ready partitions priorities masks queue) history ≡ after v (eventsIn events i))
+    × (saved (stateOf settings used t (columns exists ready partitions priorities masks) queue) history ≡ after v (eventsIn events i))
     × (out ≡ linesOf (run v (eventsIn events i)) ++ drop (12 * i) out₀)
-    × Whole settings used t exists ready partitions priorities masks queue history budgets tops firsts kept
+    × Whole settings used t (columns exists ready partitions priorities masks) queue history budgets tops firsts kept
 
 abbrev μ-loop : tie.MeasureT-loop
 μ-loop settings used₀ exists₀ ready₀ partitions₀ priorities₀ masks₀ queue₀ budgets tops₀ firsts₀ history₀ events out₀ n t₀ kept₀ i₀ used exists ready partitions priorities masks queue tops firsts history out t kept i =
@@ -39,7 +39,7 @@ loop-holds : tie.Need-loop-holds Inv-loop μ-loop
 loop-holds c =
     let start = c .before .before .before in
     let a = start .args in
-    let v = saved (stateOf (a .settings) (now (a .used)) (a .c) (now (a .exists)) (now (a .ready)) (now (a .partitions)) (now (a .priorities)) (now (a .masks)) (now (a .queue))) (now (a .history)) in
+    let v = saved (stateOf (a .settings) (now (a .used)) (a .c) (columns (now (a .exists)) (now (a .ready)) (now (a .partitions)) (now (a .priorities)) (now (a .masks))) (now (a .queue))) (now (a .history)) in
     let e = now (a .events) in
     (omega arith, refl, refl, nothing-taken v e, nothing-written v e (now (a .out)), start .pre .0)
 
@@ -87,13 +87,13 @@ loop-again c =
     let d = c .before .before .before .before .before .before .before .before .before .before .before .before .before .before .before .before .before .before .before .before .before .before .before in
     let p = c .before .before .before .before .before .before .before .before .before .before .before .before .before .before .before .before .before .before .before .before .before .before .before .before .loop in
     let a = c .before .before .before .before .before .before .before .before .before .before .before .before .before .before .before .before .before .before .before .before .before .before .before .before .before .before .before .before .args in
-    let v = saved (stateOf (a .settings) (now (a .used)) (a .c) (now (a .exists)) (now (a .ready)) (now (a .partitions)) (now (a .priorities)) (now (a .masks)) (now (a .queue))) (now (a .history)) in
+    let v = saved (stateOf (a .settings) (now (a .used)) (a .c) (columns (now (a .exists)) (now (a .ready)) (now (a .partitions)) (now (a .priorities)) (now (a .masks))) (now (a .queue))) (now (a .history)) in
     let e = now (a .events) in
     let i = p .i in
     let inv = p .inv in
     let text = textOf (lineOf (c .before .before .before .before .before .before .before .before .before .before .step .result .verdict)) in
     let f = c .before .before .before .before .before .before .before .before .before .before .step in
-    let x = saved (stateOf (a .settings) (p .used) (p .t) (p .exists) (p .ready) (p .partitions) (p .priorities) (p .masks) (p .queue)) (p .history) in
+    let x = saved (stateOf (a .settings) (p .used) (p .t) (columns (p .exists) (p .ready) (p .partitions) (p .priorities) (p .masks)) (p .queue)) (p .history) in
     let part = record-part e i (c .before .before .before .before .before .before .before .before .before .before .before .before .before .before .before .before .before .before .before .before .before .before .least .result) (c .before .before .before .before .before .before .before .before .before .before .before .before .before .before .before .before .before .before .before .before .before .before .least .ensures) in
     let put = line-put (linesOf (run v (eventsIn e i))) text (p .out) (now (a .out)) _ i (12 * i + 12 - 12 * i)
     (run-lines-length v e i) (inv .4) (omega arith) (c .before .before .before .before .before .before .write .ensures) in (
@@ -116,12 +116,12 @@ returns c =
     let turn = c .before .loop in
     let inv = turn .inv in
     let a = c .before .before .before .before .before .args in
-    let v = saved (stateOf (a .settings) (now (a .used)) (a .c) (now (a .exists)) (now (a .ready)) (now (a .partitions)) (now (a .priorities)) (now (a .masks)) (now (a .queue))) (now (a .history)) in
+    let v = saved (stateOf (a .settings) (now (a .used)) (a .c) (columns (now (a .exists)) (now (a .ready)) (now (a .partitions)) (now (a .priorities)) (now (a .masks))) (now (a .queue))) (now (a .history)) in
     let e = now (a .events) in
     let w : c .before .loop .i ≡ a .n = omega (arith, c .loop-test .left, inv .0) in (
       inv .3 ∙ ap (λ (i : ℕ). after v (eventsIn e i)) w,
       inv .4 ∙ ap (λ (i : ℕ). linesOf (run v (eventsIn e i)) ++ drop (12 * i) (now (a .out))) w,
-      taken-arrays (a .settings) (turn .used) (turn .t) (turn .exists) (turn .ready) (turn .partitions) (turn .priorities) (turn .masks) (turn .queue) (turn .history) (now (a .budgets)) (turn .tops) (turn .firsts) (turn .kept) (inv .5),
+      taken-arrays (a .settings) (turn .used) (turn .t) (columns (turn .exists) (turn .ready) (turn .partitions) (turn .priorities) (turn .masks)) (turn .queue) (turn .history) (now (a .budgets)) (turn .tops) (turn .firsts) (turn .kept) (inv .5),
     )
 
 pub steps-spec : {M : Type 1} → statement M

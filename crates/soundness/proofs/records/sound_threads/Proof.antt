@@ -6,13 +6,14 @@ use borrow.Author.Needs.{needs}
 use denote.Ref.{now}
 use Rattle.lists.specs.Lists.{all, below}
 use Rattle.lists.proofs.Loops.{all-next}
+use Rattle.model.specs.Arrays.{columns}
 use Rattle.soundness.proofs.Clauses.{fine, fine-all}
 use Rattle.soundness.proofs.records.sound_threads.Statement.{statement}
 use Rattle.soundness.proofs.records.sound_threads.Tie as tie
 
 abbrev Inv-loop : tie.InvT-loop
 Inv-loop exists ready partitions priorities masks count ok₀ t₀ ok t =
-    (t ≤ 64) × (ok ≡ all (fine count exists ready partitions priorities masks) (below t))
+    (t ≤ 64) × (ok ≡ all (fine count (columns exists ready partitions priorities masks)) (below t))
 
 abbrev μ-loop : tie.MeasureT-loop
 μ-loop exists ready partitions priorities masks count ok₀ t₀ ok t = 64 - t
@@ -46,7 +47,7 @@ loop-again : tie.Need-loop-again Inv-loop μ-loop
 loop-again c =
     let a = c .before .before .before .before .before .before .before .args in
     let turn = c .before .before .before .before .before .before .loop in
-    (omega arith, rw (turn .inv .1) (all-next (fine (a .count) (now (a .exists)) (now (a .ready)) (now (a .partitions)) (now (a .priorities)) (now (a .masks))) (turn .t)))
+    (omega arith, rw (turn .inv .1) (all-next (fine (a .count) (columns (now (a .exists)) (now (a .ready)) (now (a .partitions)) (now (a .priorities)) (now (a .masks)))) (turn .t)))
 
 returns : tie.Need-returns Inv-loop μ-loop
 returns c =
@@ -54,8 +55,8 @@ returns c =
     let turn = c .before .loop in
     let e : turn .t ≡ 64 = omega arith in
     turn .inv .1
-    ∙ ap (λ (k : ℕ). all (fine (a .count) (now (a .exists)) (now (a .ready)) (now (a .partitions)) (now (a .priorities)) (now (a .masks))) (below k)) e
-    ∙ fine-all (a .count) (now (a .exists)) (now (a .ready)) (now (a .partitions)) (now (a .priorities)) (now (a .masks))
+    ∙ ap (λ (k : ℕ). all (fine (a .count) (columns (now (a .exists)) (now (a .ready)) (now (a .partitions)) (now (a .priorities)) (now (a .masks)))) (below k)) e
+    ∙ fine-all (a .count) (columns (now (a .exists)) (now (a .ready)) (now (a .partitions)) (now (a .priorities)) (now (a .masks)))
 
 pub sound-threads-spec : {M : Type 1} → statement M
 sound-threads-spec =

@@ -1,12 +1,14 @@
 use mathlib.Core.Path.{_≡_, sym, ap, _∙_}
-use mathlib.Core.Bool.{true, false}
+use mathlib.Core.Bool.{Bool, true, false}
 use mathlib.Core.List.{List}
 use Prim.Native.Nat.{ℕ, _<_, _≤_}
 use native.Mathlib.Omega.{arith}
+use lib.ListN.{getD, set}
 use denote.Ref.{now}
-use Rattle.model.specs.State.{State}
+use Rattle.model.specs.State.{absent, State}
 use Rattle.model.specs.Event.{kindOf, threadOf, priorityOf}
-use Rattle.model.specs.Arrays.{threadsIn, Tables, tablesIn, withTables}
+use Rattle.model.specs.Step.{withReady}
+use Rattle.model.specs.Arrays.{flag, Columns, columns, withReadyColumn, withPriorityColumn, threadsIn, Tables, tablesIn, withTables}
 use Rattle.model.proofs.Table.{ready-put, priority-put}
 use Rattle.event.specs.declared.kinds.Action.{Action}
 use Rattle.event.specs.declared.kinds.Action.the-variants.{Create, Ready, Block, SetPriority, End}
@@ -20,10 +22,11 @@ use Rattle.threads.proofs.actions.act.Tie as tie
 abbrev bytes : tie.Start → List ℕ
 bytes c = bytesOf (c .args .event)
 
+abbrev threads : tie.Start → Columns
+threads c = let a = c .args in columns (now (a .exists)) (now (a .ready)) (now (a .partitions)) (now (a .priorities)) (now (a .masks))
+
 abbrev old : tie.Start → Tables
-old c =
-    let a = c .args in
-    tablesIn (now (a .exists)) (now (a .ready)) (now (a .partitions)) (now (a .priorities)) (now (a .masks)) (now (a .queue)) (a .queued)
+old c = tablesIn (threads c) (now (c .args .queue)) (c .args .queued)
 
 -- what is asked of the thread, where the action is told
 inside : (c : tie.Start) (a : Action) → c .args .event .action ≡ a → 2 ≤ kindNumber a → kindNumber a ≤ 6 → threadOf (bytes c) < 64
@@ -76,37 +79,38 @@ returns c =
     let at = c .before .before .before .before .before .before .before .before in
     (acted-create (old at) (bytes at) _ (ap kindNumber (c .before .before .before .before .before .before .enum-told .given .1)) (c .create .ensures .0), c .create .ensures .1)
 
+-- the thread's flag was stored
+flagged : (c : tie.Start) (r′ : List ℕ) (b : Bool) → r′ ≡ set (now (c .args .ready)) (threadOf (bytes c)) (flag b) → threadOf (bytes c) < 64
+    → threadsIn (withReadyColumn (threads c) r′) ≡ set (threadsIn (threads c)) (threadOf (bytes c)) (withReady (getD (threadsIn (threads c)) (threadOf (bytes c)) absent) b)
+flagged c r′ b e h = ap (λ (l : List ℕ). threadsIn (withReadyColumn (threads c) l)) e ∙ ready-put (threads c) (c .pre .sizes) (threadOf (bytes c)) h b
+
 returns-2 : tie.Need-returns-2
 returns-2 c =
     let at = c .before .before .before .before .before in
-    let a = at .args in
     let t = c .before .before .before .enum-told2 .given .1 in
-    let threads = ap (λ (l : List ℕ). threadsIn (now (a .exists)) l (now (a .partitions)) (now (a .priorities)) (now (a .masks))) (c .join .ensures .0)
-    ∙ ready-put (now (a .exists)) (now (a .ready)) (now (a .partitions)) (now (a .priorities)) (now (a .masks)) (at .pre .sizes) (threadOf (bytes at)) (inside at Ready t (omega arith) (omega arith)) true in (
-      acted-ready (old at) (bytes at) _ _ (c .join .result) (ap kindNumber t) threads (c .join .ensures .1),
-      regular-ready (now (a .exists)) (now (a .ready)) (now (a .partitions)) (now (a .priorities)) (now (a .masks)) (at .pre .sizes) (threadOf (bytes at)) (inside at Ready t (omega arith) (omega arith)) _ 1 (omega arith) (c .join .ensures .0),
+    let low = inside at Ready t (omega arith) (omega arith) in (
+      acted-ready (old at) (bytes at) _ _ (c .join .result) (ap kindNumber t) (flagged at _ true (c .join .ensures .0) low) (c .join .ensures .1),
+      regular-ready (threads at) (at .pre .sizes) (threadOf (bytes at)) low _ 1 (omega arith) (c .join .ensures .0),
     )
 
 returns-3 : tie.Need-returns-3
 returns-3 c =
     let at = c .before .before .before .before .before in
-    let a = at .args in
     let t = c .before .before .before .enum-told3 .given .1 in
-    let threads = ap (λ (l : List ℕ). threadsIn (now (a .exists)) l (now (a .partitions)) (now (a .priorities)) (now (a .masks))) (c .block .ensures .0)
-    ∙ ready-put (now (a .exists)) (now (a .ready)) (now (a .partitions)) (now (a .priorities)) (now (a .masks)) (at .pre .sizes) (threadOf (bytes at)) (inside at Block t (omega arith) (omega arith)) false in (
-      acted-block (old at) (bytes at) _ _ (c .block .result) (ap kindNumber t) threads (c .block .ensures .1),
-      regular-ready (now (a .exists)) (now (a .ready)) (now (a .partitions)) (now (a .priorities)) (now (a .masks)) (at .pre .sizes) (threadOf (bytes at)) (inside at Block t (omega arith) (omega arith)) _ 0 (omega arith) (c .block .ensures .0),
+    let low = inside at Block t (omega arith) (omega arith) in (
+      acted-block (old at) (bytes at) _ _ (c .block .result) (ap kindNumber t) (flagged at _ false (c .block .ensures .0) low) (c .block .ensures .1),
+      regular-ready (threads at) (at .pre .sizes) (threadOf (bytes at)) low _ 0 (omega arith) (c .block .ensures .0),
     )
 
 returns-4 : tie.Need-returns-4
 returns-4 c =
     let at = c .before .before .before .before in
-    let a = at .args in
     let t = c .before .before .enum-told4 .given .1 in
-    let threads = ap (λ (l : List ℕ). threadsIn (now (a .exists)) (now (a .ready)) (now (a .partitions)) l (now (a .masks))) (c .set-priority .ensures)
-    ∙ priority-put (now (a .exists)) (now (a .ready)) (now (a .partitions)) (now (a .priorities)) (now (a .masks)) (at .pre .sizes) (threadOf (bytes at)) (inside at SetPriority t (omega arith) (omega arith)) (priorityOf (bytes at)) in (
-      acted-priority (old at) (bytes at) _ (ap kindNumber t) threads,
-      regular-priority (now (a .exists)) (now (a .ready)) (now (a .partitions)) (now (a .priorities)) (now (a .masks)) (at .pre .sizes) (threadOf (bytes at)) (inside at SetPriority t (omega arith) (omega arith)) _ (priorityOf (bytes at)) (c .set-priority .ensures),
+    let low = inside at SetPriority t (omega arith) (omega arith) in
+    let records = ap (λ (l : List ℕ). threadsIn (withPriorityColumn (threads at) l)) (c .set-priority .ensures)
+    ∙ priority-put (threads at) (at .pre .sizes) (threadOf (bytes at)) low (priorityOf (bytes at)) in (
+      acted-priority (old at) (bytes at) _ (ap kindNumber t) records,
+      regular-priority (threads at) (at .pre .sizes) (threadOf (bytes at)) low _ (priorityOf (bytes at)) (c .set-priority .ensures),
     )
 
 returns-5 : tie.Need-returns-5

@@ -1,7 +1,7 @@
-use native.Mathlib.Omega.{arith}
 use denote.Ref.{now}
+use Rattle.model.specs.Arrays.{Columns, columns}
 use Rattle.model.proofs.Table.{thread-put}
-use mathlib.Core.Bool.{true, false}
+use Rattle.model.specs.Step.{created}
 use Rattle.threads.proofs.ActionsLaws.{regular-all}
 use borrow.Author.Needs.{needs}
 use Rattle.threads.proofs.actions.create.Statement.{statement}
@@ -24,11 +24,9 @@ element-write-masks c = search needs
 
 returns : tie.Need-returns
 returns c =
-    let a = c .args in (
-      thread-put (now (a .exists)) (now (a .ready)) (now (a .partitions)) (now (a .priorities)) (now (a .masks)) (c .pre .1) (a .t) (c .pre .0)
-          (record { exists = true; ready = false; partition = a .partition; priority = a .priority; mask = a .mask }),
-      regular-all (now (a .exists)) (now (a .ready)) (now (a .partitions)) (now (a .priorities)) (now (a .masks)) (c .pre .1) (a .t) (c .pre .0) 1 0 (a .partition) (a .priority) (a .mask) (omega arith) (omega arith),
-    )
+    let a = c .args in
+    let ts : Columns = columns (now (a .exists)) (now (a .ready)) (now (a .partitions)) (now (a .priorities)) (now (a .masks)) in
+    (thread-put ts (c .pre .1) (a .t) (c .pre .0) (created (a .partition) (a .priority) (a .mask)), regular-all ts (c .pre .1) (a .t) (c .pre .0) (created (a .partition) (a .priority) (a .mask)))
 
 pub create-spec : {M : Type 1} → statement M
 create-spec =

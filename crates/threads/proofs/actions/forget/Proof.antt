@@ -1,5 +1,5 @@
-use native.Mathlib.Omega.{arith}
 use denote.Ref.{now}
+use Rattle.model.specs.Arrays.{Columns, columns}
 use Rattle.model.proofs.Table.{thread-put}
 use Rattle.model.specs.State.{absent}
 use Rattle.threads.proofs.ActionsLaws.{regular-all}
@@ -24,11 +24,9 @@ element-write-masks c = search needs
 
 returns : tie.Need-returns
 returns c =
-    let a = c .args in (
-      thread-put (now (a .exists)) (now (a .ready)) (now (a .partitions)) (now (a .priorities)) (now (a .masks)) (c .pre .1) (a .t) (c .pre .0)
-          absent,
-      regular-all (now (a .exists)) (now (a .ready)) (now (a .partitions)) (now (a .priorities)) (now (a .masks)) (c .pre .1) (a .t) (c .pre .0) 0 0 0 0 0 (omega arith) (omega arith),
-    )
+    let a = c .args in
+    let ts : Columns = columns (now (a .exists)) (now (a .ready)) (now (a .partitions)) (now (a .priorities)) (now (a .masks)) in
+    (thread-put ts (c .pre .1) (a .t) (c .pre .0) absent, regular-all ts (c .pre .1) (a .t) (c .pre .0) absent)
 
 pub forget-spec : {M : Type 1} → statement M
 forget-spec =
