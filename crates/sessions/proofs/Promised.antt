@@ -38,6 +38,7 @@ promised = record {
   chooses = Choices.chooses;
   chooses-one = Choices.chooses-one;
   budget-first = Choices.budget-first;
+  totals-from = Totals.totals-from;
   totals = Totals.totals;
   account = Account.account;
   answers = Account.answers;
@@ -51,5 +52,6 @@ promised = record {
   door-account = Calls.door-account;
   door-answers = Calls.door-answers;
   door-totals = Calls.door-totals;
+  door-totals-from = Calls.door-totals-from;
   run = Runs.run-is-calls;
 }

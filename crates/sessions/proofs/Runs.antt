@@ -27,12 +27,12 @@ use Rattle.model.specs.Lent.{Lent, lent, lentClock, stateIn, savedIn, refusedIn
 use Rattle.model.specs.Stream.{eventsIn, linesOf}
 use Rattle.model.specs.Doors.{takenBy, answerTo, afterRun, linesAfter}
 use Rattle.model.proofs.Accepted.{fit-of, of-fit}
-use Rattle.model.proofs.Flags.{accepted, as-state}
+use Rattle.model.proofs.Flags.{as-state}
 use Rattle.model.proofs.Table.{flag-on}
 use Rattle.invariants.proofs.Answered.{Good, good-answer}
 use Rattle.doors.specs.Doors.{Sizes, Answered, Ran}
 use Rattle.sessions.specs.Calls.{Call, Calls, leftBy, givenTo, asEntries, callLines, takenOf, AsCalls, RunIsCalls}
-use Rattle.sessions.proofs.Calls.{answer-yes, answer-no, lengths, calls-are-run}
+use Rattle.sessions.proofs.Calls.{answer-yes, answer-no, lengths, not-refused, calls-are-run}
 
 -- ---- every state can be lent: arrays that stand for it
 
@@ -151,8 +151,8 @@ answer-there x s b = go (ℕ-discrete (refusedIn x) 0)
       where
         good : Good (Lent.lentSettings x) (answer (savedIn x) b .after)
         good =
-            let (_, _, t) = accepted (Lent.lentSettings x) (x .used) (lentClock x) (x .exists) (x .ready) (x .partitions) (x .priorities) (x .masks) (x .queue) (x .history) z in
-            good-answer (Lent.lentSettings x) (savedIn x) b (record { fit = fit-of (stateIn x) (x .history) t; lengths = lengths x s; settings = refl })
+            good-answer (Lent.lentSettings x) (savedIn x) b
+            (record { fit = fit-of (stateIn x) (x .history) (not-refused x z); lengths = lengths x s; settings = refl })
 
         v : Saved
         v = answer (savedIn x) b .after

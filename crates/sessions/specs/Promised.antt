@@ -35,6 +35,7 @@ pub record Promised : Type 0 where
   pub chooses-one : Invariants.ChoosesOne
   pub budget-first : Invariants.BudgetFirst
   -- lists of events, on the definitions
+  pub totals-from : Ledger.TotalsFrom
   pub totals : Ledger.Totals
   pub account : Account.Account
   pub answers : Account.Answers
@@ -49,4 +50,5 @@ pub record Promised : Type 0 where
   pub door-account : Calls.DoorAccount
   pub door-answers : Calls.DoorAnswers
   pub door-totals : Calls.DoorTotals
+  pub door-totals-from : Calls.DoorTotalsFrom
   pub run : Calls.RunIsCalls
