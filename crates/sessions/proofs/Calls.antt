@@ -153,7 +153,8 @@ door-demand3 x (c ∷ cs) q before opening within closing later e st = go (ℕ-d
 
     go : Dec (refusedIn x ≡ 0) → Promised
     go (yes z) =
-        demand3 (savedIn x) (lengths x (q .0 .sizes)) (not-refused x z) (givenTo calls) before opening within closing later (sym (entries-run x calls q z) ∙ e) st
+        demand3 (savedIn x) (lengths x (q .0 .sizes)) (not-refused x z) (givenTo calls)
+        before opening within closing later (sym (entries-run x calls q z) ∙ e) st
     go (no n) =
         let none = subst (λ (l : List Entry). all (λ i. not (Demand3.accepted i)) l ≡ true) e (none-accepted x calls (refused-stays x calls q n) n) in
         let (opened, _) = both (Demand3.accepted opening) (eqb (kindOf (opening .event)) tick) (st .opens) in

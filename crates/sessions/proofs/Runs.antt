@@ -132,7 +132,7 @@ is-empty (_ ∷ _) = false
 no-cons : {b : List ℕ} {bs : List (List ℕ)} → b ∷ bs ≡ [] → ⊥
 no-cons e = clash (ap is-empty e) refl
 
-no-events : (bytes : List ℕ) → eventsIn bytes 0 ≡ []
+pub no-events : (bytes : List ℕ) → eventsIn bytes 0 ≡ []
 unfolding below
 no-events bytes = refl
 
@@ -180,7 +180,7 @@ answer-there x s b = go (ℕ-discrete (refusedIn x) 0)
             refused-after : answerTo x b .refusal ≢ 0 → answerTo x b .after ≡ savedIn x
             refused-after k = ap (λ (w : Answer). w .after) (answer-yes x b z) ∙ kept-after (savedIn x) b (λ i. k (ap (λ (w : Answer). w .refusal) (answer-yes x b z) ∙ i))
 
-calls-there : (x : Lent) → Sizes x → (bs : List (List ℕ)) → (calls : List Call) × Calls x calls × (givenTo calls ≡ bs)
+pub calls-there : (x : Lent) → Sizes x → (bs : List (List ℕ)) → (calls : List Call) × Calls x calls × (givenTo calls ≡ bs)
 calls-there x s [] = ([], tt, refl)
 calls-there x s (b ∷ bs) =
     let (y, q, s′) = answer-there x s b in

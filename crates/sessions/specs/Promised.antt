@@ -9,6 +9,8 @@ use Rattle.guarantee.specs.Demand3 as Demand3
 use Rattle.guarantee.specs.Ledger as Ledger
 use Rattle.sessions.specs.Calls as Calls
 use Rattle.sessions.specs.Decisions as Decisions
+use Rattle.sessions.specs.Uses as Uses
+use Rattle.sessions.specs.FromC as FromC
 
 pub record Promised : Type 0 where
   -- numbers and sheets
@@ -52,3 +54,9 @@ pub record Promised : Type 0 where
   pub door-totals : Calls.DoorTotals
   pub door-totals-from : Calls.DoorTotalsFrom
   pub run : Calls.RunIsCalls
+  pub uses : Uses.UsesAreCalls
+  pub uses-run : Uses.UsesAreRun
+  pub uses-demand3 : Uses.UsesDemand3
+  pub c-calls : FromC.CCallsAreCalls
+  pub c-demand3 : FromC.CDemand3
+  pub c-decides : FromC.CDecides
