@@ -11,7 +11,7 @@ use borrow.Author.Tests.{ne-eqb}
 use native.Mathlib.Omega.{arith}
 use native.Mathlib.Decide.{ℕ-discrete}
 use Rattle.lists.specs.Lists.{any}
-use Rattle.sheet.specs.Records.{digitsOf, valueIn}
+use Rattle.sheet.specs.Records.{Said, digitsOf}
 use Rattle.sheet.specs.Settings.{W, budget, withinLimits}
 use Rattle.sheet.specs.declared.Settings.{Settings}
 use Rattle.sheet.proofs.Digits.{read-written}
@@ -45,10 +45,10 @@ record Short (l : Line) : Type 0 where
 line-read : (l : Line) → Short l → lineIn (textOf l) ≡ l
 unfolding textOf digitsOf
 line-read l s = λ i. record {
-  refusal = ap valueIn (read-written 2 (l .refusal) (s .refusal)) i;
-  mode = ap valueIn (read-written 1 (l .mode) (s .mode)) i;
-  partition = ap valueIn (read-written 2 (l .partition) (s .partition)) i;
-  thread = ap valueIn (read-written 3 (l .thread) (s .thread)) i;
+  refusal = ap (λ (s : Said). s .value) (read-written 2 (l .refusal) (s .refusal)) i;
+  mode = ap (λ (s : Said). s .value) (read-written 1 (l .mode) (s .mode)) i;
+  partition = ap (λ (s : Said). s .value) (read-written 2 (l .partition) (s .partition)) i;
+  thread = ap (λ (s : Said). s .value) (read-written 3 (l .thread) (s .thread)) i;
 }
 
 -- ---- every answer is short

@@ -4,7 +4,7 @@ use Prim.Native.Nat.{ℕ, zero, suc}
 use mathlib.Core.Path.{_≡_}
 use mathlib.Core.List.{List, [], _∷_, _++_, map}
 use lib.ListN.{take, drop}
-use Rattle.sheet.specs.Records.{numberFrom, valueIn}
+use Rattle.sheet.specs.Records.{numberFrom}
 use Rattle.model.specs.Answers.{Line, answerLine}
 use Rattle.model.specs.Lent.{Lent, stateIn, savedIn, refusedIn}
 use Rattle.model.specs.Run.{Entry, run, after}
@@ -60,7 +60,7 @@ recordsOf (many r) = eventsIn (r .events) (takenIn r)
 
 -- the number that decimal digits spell
 abbrev pub spelt : List ℕ → ℕ
-spelt digits = valueIn (numberFrom 0 digits)
+spelt digits = numberFrom 0 digits .value
 
 -- a line, read from its twelve bytes: "refusal in two digits, mode, partition in two digits, thread in three"
 abbrev pub lineIn : List ℕ → Line
