@@ -19,25 +19,26 @@ use Rattle.sheet.specs.Sheet.{settingsOf}
 use Rattle.sheet.specs.declared.Settings.{Settings}
 use Rattle.model.specs.State.{used}
 use Rattle.model.specs.Typed.{Lengths}
-use Rattle.model.specs.Event.{kindOf, tick}
+use Rattle.model.specs.Event.{kindOf, tick, refusedState}
 use Rattle.model.specs.Step.{Saved, Answer, answer, nothing}
 use Rattle.model.specs.Run.{Entry, run, fresh, after}
 use Rattle.model.specs.Doors.{refusedStart, answerTo}
 use Rattle.model.specs.Answers.{Line, answerLine}
 use Rattle.model.specs.Lent as Lent
 use Rattle.model.specs.Lent.{Lent, lentClock, stateIn, savedIn, refusedIn}
+use Rattle.model.proofs.Accepted.{fit-of}
 use Rattle.model.proofs.Flags.{accepted}
 use Rattle.model.proofs.Table.{threads-length}
 use Rattle.guarantee.specs.Demand3 as Demand3
-use Rattle.guarantee.specs.Ledger.{ledgerOf, acceptedOf}
+use Rattle.guarantee.specs.Ledger.{ledger, ledgerOf, lastIn, periodsIn, acceptedOf}
 use Rattle.guarantee.specs.Account.{Accounted, decisionsFrom}
 use Rattle.guarantee.proofs.Demand3.{demand3}
 use Rattle.guarantee.proofs.Account.{account, answers}
-use Rattle.guarantee.proofs.Totals.{totals}
+use Rattle.guarantee.proofs.Totals.{used-given, totals-from, totals}
 use Rattle.accounts.proofs.ChargingLaws.{map-length}
 use Rattle.doors.specs.Doors.{Sizes, Answered}
 use Rattle.sessions.specs.Calls.{Call, Calls, leftBy, givenTo, chosenBy, entryOf, asEntries, acceptedCalls, Unmoved, Session}
-use Rattle.sessions.specs.Calls.{CallsAreRun, RefusedStays, DoorDemand3, DoorAccount, DoorAnswers, DoorTotals}
+use Rattle.sessions.specs.Calls.{CallsAreRun, RefusedStays, DoorDemand3, DoorTotalsFrom, DoorAccount, DoorAnswers, DoorTotals}
 
 -- ---- calls are a run
 
@@ -95,7 +96,7 @@ refused-stays x (c ∷ cs) (q, qs) n =
     let same : c .left ≡ x = q .still (λ z. n (sym (ap (λ (a : Answer). a .refusal) (answer-no x (c .bytes) n)) ∙ z)) in
     (refusal, same, refused-stays x cs (subst (λ (y : Lent). Calls y cs) same qs) n)
 
--- ---- demand 3
+-- ---- what is lent, as the model's theorems take it
 
 pub lengths : (x : Lent) → Sizes x → Lengths (stateIn x)
 lengths x s = record {
@@ -104,6 +105,11 @@ lengths x s = record {
   threads = threads-length (x .threads);
   queue = s .queue;
 }
+
+pub not-refused : (x : Lent) → refusedIn x ≡ 0 → refusedState (stateIn x) (x .history) ≡ 0
+not-refused x z = accepted (Lent.lentSettings x) (x .used) (lentClock x) (x .threads) (x .queue) (x .history) z .1
+
+-- ---- demand 3
 
 -- no call on what is refused is accepted
 none-accepted : (x : Lent) (cs : List Call) → Unmoved x cs → refusedIn x ≢ 0 → all (λ e. not (Demand3.accepted e)) (asEntries cs) ≡ true
@@ -145,12 +151,24 @@ door-demand3 x (c ∷ cs) q before opening within closing later e st = go (ℕ-d
 
     go : Dec (refusedIn x ≡ 0) → Promised
     go (yes z) =
-        demand3 (savedIn x) (lengths x (q .0 .sizes)) (accepted (Lent.lentSettings x) (x .used) (lentClock x) (x .threads) (x .queue) (x .history) z .1)
-        (givenTo calls) before opening within closing later (sym (entries-run x calls q z) ∙ e) st
+        demand3 (savedIn x) (lengths x (q .0 .sizes)) (not-refused x z) (givenTo calls)
+        before opening within closing later (sym (entries-run x calls q z) ∙ e) st
     go (no n) =
         let none = subst (λ (l : List Entry). all (λ i. not (Demand3.accepted i)) l ≡ true) e (none-accepted x calls (refused-stays x calls q n) n) in
         let (opened, _) = both (Demand3.accepted opening) (eqb (kindOf (opening .event)) tick) (st .opens) in
         absurd (none-there before opening (within ++ (closing ∷ later)) none opened)
+
+-- ---- DEMAND 2, the totals from what was lent
+
+pub door-totals-from : DoorTotalsFrom
+unfolding ledger
+door-totals-from x [] q z p i = used-given (savedIn x) (fit-of (stateIn x) (x .history) (not-refused x z)) p i
+door-totals-from x (c ∷ cs) q z p i =
+    let calls : List Call = c ∷ cs in
+    ap (λ (v : Saved). used (v .state) p) (left-after x calls q z)
+    ∙ totals-from (savedIn x) (lengths x (q .0 .sizes)) (not-refused x z) (givenTo calls) p i
+    ∙ ap (λ (es : List Entry). sum (take (W (stateIn x .settings)) (ledger p (lastIn (stateIn x)) (periodsIn (stateIn x) (x .history) p) es)))
+    (sym (entries-run x calls q z))
 
 -- ---- from an accepted start
 

@@ -13,9 +13,8 @@ use Rattle.model.specs.Policy.{Decided, decide}
 use Rattle.model.specs.Step.{Saved, Answer, apply, settle, answerBy, answer}
 use Rattle.model.specs.Answers.{Line, answerLine, decisionLine}
 use Rattle.model.specs.Doors as Doors
-use Rattle.model.specs.Lent.{Lent, lentSettings, lentClock, stateIn, savedIn, refusedIn}
+use Rattle.model.specs.Lent.{Lent, stateIn, savedIn, refusedIn}
 use Rattle.model.proofs.Accepted.{fit-of}
-use Rattle.model.proofs.Flags.{accepted}
 use Rattle.model.proofs.Meaning.{of-sound}
 use Rattle.invariants.specs.Promises.{IdleExactly, Busy}
 use Rattle.invariants.proofs.Choices.{idles, chooses, budget-first}
@@ -23,7 +22,7 @@ use Rattle.guarantee.proofs.Looks.{decide-settle}
 use Rattle.doors.specs.Doors.{Answered}
 use Rattle.sessions.specs.Calls.{Call, chosenBy, accepts}
 use Rattle.sessions.specs.Decisions.{Decides, DoorDecides}
-use Rattle.sessions.proofs.Calls.{answer-yes, answer-no}
+use Rattle.sessions.proofs.Calls.{answer-yes, answer-no, not-refused}
 
 accepted-answer : (v : Saved) (b : List ℕ) → answer v b .refusal ≡ 0
     → answer v b ≡ record { refusal = 0; decision = decide (apply v b .state); after = settle (apply v b) }
@@ -75,9 +74,7 @@ module _ (x : Lent) (c : Call) (q : Answered x (c .bytes) (c .line) (c .left)) (
 
   fine : sound s (c .left .history) ≡ true
   fine =
-      let y = c .left in
-      of-sound s (y .history)
-      (fit-of s (y .history) (accepted (lentSettings y) (y .used) (lentClock y) (y .threads) (y .queue) (y .history) (q .taken taken) .1) .sound)
+      of-sound s (c .left .history) (fit-of s (c .left .history) (not-refused (c .left) (q .taken taken)) .sound)
 
   repeats : Doors.decision (c .left) ≡ c .line
   unfolding Doors.decision

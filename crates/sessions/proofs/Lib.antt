@@ -1,4 +1,7 @@
 pub mod Calls
 pub mod Decisions
 pub mod Runs
+pub mod Reading
+pub mod Uses
+pub mod FromC
 pub mod Promised

@@ -14,6 +14,8 @@ use Rattle.sessions.specs.Promised.{Promised}
 use Rattle.sessions.proofs.Calls as Calls
 use Rattle.sessions.proofs.Decisions as Decisions
 use Rattle.sessions.proofs.Runs as Runs
+use Rattle.sessions.proofs.Uses as Uses
+use Rattle.sessions.proofs.FromC as FromC
 
 pub promised : Promised
 promised = record {
@@ -38,6 +40,7 @@ promised = record {
   chooses = Choices.chooses;
   chooses-one = Choices.chooses-one;
   budget-first = Choices.budget-first;
+  totals-from = Totals.totals-from;
   totals = Totals.totals;
   account = Account.account;
   answers = Account.answers;
@@ -51,5 +54,12 @@ promised = record {
   door-account = Calls.door-account;
   door-answers = Calls.door-answers;
   door-totals = Calls.door-totals;
+  door-totals-from = Calls.door-totals-from;
   run = Runs.run-is-calls;
+  uses = Uses.uses-are-calls;
+  uses-run = Uses.uses-are-run;
+  uses-demand3 = Uses.uses-demand3;
+  c-calls = FromC.c-calls-are-calls;
+  c-demand3 = FromC.c-demand3;
+  c-decides = FromC.c-decides;
 }

@@ -27,12 +27,12 @@ use Rattle.model.specs.Lent.{Lent, lent, lentClock, stateIn, savedIn, refusedIn
 use Rattle.model.specs.Stream.{eventsIn, linesOf}
 use Rattle.model.specs.Doors.{takenBy, answerTo, afterRun, linesAfter}
 use Rattle.model.proofs.Accepted.{fit-of, of-fit}
-use Rattle.model.proofs.Flags.{accepted, as-state}
+use Rattle.model.proofs.Flags.{as-state}
 use Rattle.model.proofs.Table.{flag-on}
 use Rattle.invariants.proofs.Answered.{Good, good-answer}
 use Rattle.doors.specs.Doors.{Sizes, Answered, Ran}
 use Rattle.sessions.specs.Calls.{Call, Calls, leftBy, givenTo, asEntries, callLines, takenOf, AsCalls, RunIsCalls}
-use Rattle.sessions.proofs.Calls.{answer-yes, answer-no, lengths, calls-are-run}
+use Rattle.sessions.proofs.Calls.{answer-yes, answer-no, lengths, not-refused, calls-are-run}
 
 -- ---- every state can be lent: arrays that stand for it
 
@@ -121,7 +121,7 @@ is-empty (_ ∷ _) = false
 no-cons : {b : List ℕ} {bs : List (List ℕ)} → b ∷ bs ≡ [] → ⊥
 no-cons e = clash (ap is-empty e) refl
 
-no-events : (bytes : List ℕ) → eventsIn bytes 0 ≡ []
+pub no-events : (bytes : List ℕ) → eventsIn bytes 0 ≡ []
 unfolding below
 no-events bytes = refl
 
@@ -140,8 +140,8 @@ answer-there x s b = go (ℕ-discrete (refusedIn x) 0)
       where
         good : Good (Lent.lentSettings x) (answer (savedIn x) b .after)
         good =
-            let (_, t) = accepted (Lent.lentSettings x) (x .used) (lentClock x) (x .threads) (x .queue) (x .history) z in
-            good-answer (Lent.lentSettings x) (savedIn x) b (record { fit = fit-of (stateIn x) (x .history) t; lengths = lengths x s; settings = refl })
+            good-answer (Lent.lentSettings x) (savedIn x) b
+            (record { fit = fit-of (stateIn x) (x .history) (not-refused x z); lengths = lengths x s; settings = refl })
 
         v : Saved
         v = answer (savedIn x) b .after
@@ -169,7 +169,7 @@ answer-there x s b = go (ℕ-discrete (refusedIn x) 0)
             refused-after : answerTo x b .refusal ≢ 0 → answerTo x b .after ≡ savedIn x
             refused-after k = ap (λ (w : Answer). w .after) (answer-yes x b z) ∙ kept-after (savedIn x) b (λ i. k (ap (λ (w : Answer). w .refusal) (answer-yes x b z) ∙ i))
 
-calls-there : (x : Lent) → Sizes x → (bs : List (List ℕ)) → (calls : List Call) × Calls x calls × (givenTo calls ≡ bs)
+pub calls-there : (x : Lent) → Sizes x → (bs : List (List ℕ)) → (calls : List Call) × Calls x calls × (givenTo calls ≡ bs)
 calls-there x s [] = ([], tt, refl)
 calls-there x s (b ∷ bs) =
     let (y, q, s′) = answer-there x s b in

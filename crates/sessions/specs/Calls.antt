@@ -20,7 +20,7 @@ use Rattle.model.specs.Lent.{Lent, stateIn, savedIn, refusedIn}
 use Rattle.model.specs.Stream.{eventsIn}
 use Rattle.model.specs.Doors.{takenBy}
 use Rattle.guarantee.specs.Demand3.{Served}
-use Rattle.guarantee.specs.Ledger.{ledgerOf}
+use Rattle.guarantee.specs.Ledger.{ledger, ledgerOf, lastIn, periodsIn}
 use Rattle.guarantee.specs.Account.{Accounted, decisionsFrom}
 use Rattle.doors.specs.Doors.{Begun, Answered, Ran}
 
@@ -93,6 +93,14 @@ DoorDemand3 = (x : Lent) (calls : List Call) → Calls x calls → Served (state
 
 -- ---- demand 2
 
+-- used(p), from whatever was lent and is not refused: the ledger of the calls, which goes on from what the given rows hold. Where what was lent is
+-- refused nothing moves, as above
+abbrev pub DoorTotalsFrom : Type 0
+DoorTotalsFrom =
+    (x : Lent) (calls : List Call) → Calls x calls → refusedIn x ≡ 0 → (p : ℕ) → p < stateIn x .settings .count →
+    used (stateIn (leftBy x calls)) p
+    ≡ sum (take (W (stateIn x .settings)) (ledger p (lastIn (stateIn x)) (periodsIn (stateIn x) (x .history) p) (asEntries calls)))
+
 -- the start door took the sheet, lent x, and left y; and then the event door was called
 pub record Session (x : Lent) (sheet : List ℕ) (y : Lent) (calls : List Call) : Type 0 where
   pub begun : Begun x sheet 0 y
@@ -114,7 +122,7 @@ DoorAnswers =
     (x : Lent) (sheet : List ℕ) (y : Lent) (calls : List Call) → Session x sheet y calls →
     map (λ c. chosenBy (c .line)) (acceptedCalls calls) ≡ decisionsFrom (settingsOf sheet) [] (givenTo (acceptedCalls calls))
 
--- used(p) is what the ledger of the calls says
+-- used(p) is what the ledger of the calls says, which starts with nothing charged
 abbrev pub DoorTotals : Type 0
 DoorTotals =
     (x : Lent) (sheet : List ℕ) (y : Lent) (calls : List Call) → Session x sheet y calls →

@@ -9,6 +9,8 @@ use Rattle.guarantee.specs.Demand3 as Demand3
 use Rattle.guarantee.specs.Ledger as Ledger
 use Rattle.sessions.specs.Calls as Calls
 use Rattle.sessions.specs.Decisions as Decisions
+use Rattle.sessions.specs.Uses as Uses
+use Rattle.sessions.specs.FromC as FromC
 
 pub record Promised : Type 0 where
   -- numbers and sheets
@@ -35,6 +37,7 @@ pub record Promised : Type 0 where
   pub chooses-one : Invariants.ChoosesOne
   pub budget-first : Invariants.BudgetFirst
   -- lists of events, on the definitions
+  pub totals-from : Ledger.TotalsFrom
   pub totals : Ledger.Totals
   pub account : Account.Account
   pub answers : Account.Answers
@@ -49,4 +52,11 @@ pub record Promised : Type 0 where
   pub door-account : Calls.DoorAccount
   pub door-answers : Calls.DoorAnswers
   pub door-totals : Calls.DoorTotals
+  pub door-totals-from : Calls.DoorTotalsFrom
   pub run : Calls.RunIsCalls
+  pub uses : Uses.UsesAreCalls
+  pub uses-run : Uses.UsesAreRun
+  pub uses-demand3 : Uses.UsesDemand3
+  pub c-calls : FromC.CCallsAreCalls
+  pub c-demand3 : FromC.CDemand3
+  pub c-decides : FromC.CDecides

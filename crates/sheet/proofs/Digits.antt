@@ -11,8 +11,7 @@ use borrow.Author.Tests.{le-leb, lt-leb}
 use lib.Dec.{lit≤}
 use lib.ListN.{length, getD, drop, set, drop-of-length-le, length-set}
 use lib.Seq.{drop-cons, getD-set-same, drop-set-lt}
-use Rattle.sheet.specs.declared.records.Field.the-variants.{Value, Refused}
-use Rattle.sheet.specs.Records.{isDigit, numberFrom, digitsOf}
+use Rattle.sheet.specs.Records.{Said, says, wrongForm, isDigit, numberFrom, digitsOf}
 
 pub digit-yes : (b : ℕ) → 48 ≤ b → b ≤ 57 → isDigit b ≡ true
 digit-yes b h k = rw (le-leb 48 b h, le-leb b 57 k)
@@ -31,11 +30,11 @@ pub number-more : (v : ℕ) (l : List ℕ) (i : ℕ) → i < length l → isDigi
 unfolding numberFrom
 number-more v l i h e = rw (drop-cons l i 0 h, e, add-one)
 
-pub number-bad : (v : ℕ) (l : List ℕ) (i : ℕ) → i < length l → isDigit (getD l i 0) ≡ false → numberFrom v (drop i l) ≡ Refused
+pub number-bad : (v : ℕ) (l : List ℕ) (i : ℕ) → i < length l → isDigit (getD l i 0) ≡ false → numberFrom v (drop i l) ≡ wrongForm
 unfolding numberFrom
 number-bad v l i h e = rw (drop-cons l i 0 h, e)
 
-pub number-end : (v : ℕ) (l : List ℕ) (i : ℕ) → length l ≤ i → numberFrom v (drop i l) ≡ Value v
+pub number-end : (v : ℕ) (l : List ℕ) (i : ℕ) → length l ≤ i → numberFrom v (drop i l) ≡ says v
 unfolding numberFrom
 number-end v l i h = rw (drop-of-length-le l h)
 
@@ -55,8 +54,8 @@ pub number-cons : (v b : ℕ) (l : List ℕ) → isDigit b ≡ true → numberFr
 unfolding numberFrom
 number-cons v b l e = rw e
 
-pub no-value : {v : ℕ} → Value v ≡ Refused → ⊥
-no-value {v} e = let z : _≡_ {A = ℕ} 0 1 = cc in omega arith
+pub no-value : {v : ℕ} → says v ≡ wrongForm → ⊥
+no-value e = let z : _≡_ {A = ℕ} 0 2 = ap (λ (s : Said). s .refusal) e in omega arith
 
 -- reading what was written, with l after it
 read-on : (n v a : ℕ) (l : List ℕ) → v < 10 ^ n → numberFrom a (digitsOf n v ++ l) ≡ numberFrom (a * 10 ^ n + v) l
@@ -73,7 +72,7 @@ read-on (suc n) v a l h =
     (number-cons (a * 10 ^ n + v / 10) (48 + v % 10) l d ∙ ap (λ x. numberFrom x l) e)
 
 -- reading what was written gives the value
-pub read-written : (n v : ℕ) → v < 10 ^ n → numberFrom 0 (digitsOf n v) ≡ Value v
+pub read-written : (n v : ℕ) → v < 10 ^ n → numberFrom 0 (digitsOf n v) ≡ says v
 unfolding numberFrom
 read-written n v h =
     let e : 0 * 10 ^ n + v ≡ v = omega arith in
@@ -90,15 +89,15 @@ digits-front (suc n) v =
     ap (λ l. l ++ ((48 + v % 10) ∷ [])) (digits-front n (v / 10)) ∙ rw e
 
 -- writing what was read gives the same bytes
-written-on : (l : List ℕ) (a v : ℕ) → numberFrom a l ≡ Value v → (digitsOf (length l) v ≡ l) × (v / 10 ^ length l ≡ a)
+written-on : (l : List ℕ) (a v : ℕ) → numberFrom a l ≡ says v → (digitsOf (length l) v ≡ l) × (v / 10 ^ length l ≡ a)
 unfolding digitsOf numberFrom
 written-on [] a v e =
-    let same : a ≡ v = cc in
+    let same : a ≡ v = ap (λ (s : Said). s .value) e in
     (refl, omega arith)
 written-on (b ∷ l) a v e = go (decLe 48 b) (decLe b 57) (written-on l (a * 10 + (b - 48)) v)
   where
     go : Dec (48 ≤ b) → Dec (b ≤ 57)
-        → (numberFrom (a * 10 + (b - 48)) l ≡ Value v → (digitsOf (length l) v ≡ l) × (v / 10 ^ length l ≡ a * 10 + (b - 48)))
+        → (numberFrom (a * 10 + (b - 48)) l ≡ says v → (digitsOf (length l) v ≡ l) × (v / 10 ^ length l ≡ a * 10 + (b - 48)))
         → (digitsOf (suc (length l)) v ≡ b ∷ l) × (v / 10 ^ suc (length l) ≡ a)
     go (yes h) (yes k) ih =
         let r = ih (sym (number-cons a b l (digit-yes b h k)) ∙ e) in
@@ -109,7 +108,7 @@ written-on (b ∷ l) a v e = go (decLe 48 b) (decLe b 57) (written-on l (a * 10 
     go (yes h) (no k) ih = absurd (no-value (sym (rw (digit-high b (omega arith)) at e)))
     go (no h) k ih = absurd (no-value (sym (rw (digit-low b (omega arith)) at e)))
 
-pub written-read : (l : List ℕ) (v : ℕ) → numberFrom 0 l ≡ Value v → digitsOf (length l) v ≡ l
+pub written-read : (l : List ℕ) (v : ℕ) → numberFrom 0 l ≡ says v → digitsOf (length l) v ≡ l
 written-read l v e = written-on l 0 v e .0
 
 -- one more digit written, before place j

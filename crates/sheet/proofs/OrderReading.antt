@@ -1,5 +1,5 @@
 -- Laws of the records of a sheet, read.
-use mathlib.Core.Path.{_≡_}
+use mathlib.Core.Path.{_≡_, ap, _∙_}
 use Prim.Native.Nat.{ℕ, _+_, _-_, _*_, _%_, _≤_, _<_}
 use mathlib.Core.Bool.{true, false, _&&_}
 use mathlib.Core.List.{List, [], _++_, map}
@@ -11,9 +11,7 @@ use Rattle.lists.specs.Lists.{below}
 use Rattle.lists.proofs.Tests.{both}
 use Rattle.lists.proofs.All.{all-fails, all-below}
 use Rattle.lists.proofs.Tables.{table-filled}
-use Rattle.sheet.specs.Records.{fieldOf, isValue}
-use Rattle.sheet.specs.declared.records.Field.{Field}
-use Rattle.sheet.specs.declared.records.Field.the-variants.{Value, Refused}
+use Rattle.sheet.specs.Records.{Said, says, wrongForm, accepted, fieldOf}
 use Rattle.sheet.proofs.RecordsLaws.{is-value, no-record}
 use Rattle.sheet.specs.Order.{letterAt, numberAt, recordCount, wholeRecords, fieldAt, valueAt, valuesOf, recordsFormed}
 
@@ -35,33 +33,33 @@ whole-of bs e =
 -- ---- one record
 
 -- what was read as record i is what it says
-pub field-is : (bs : List ℕ) (i : ℕ) {letter number : ℕ} {r : Field} → letter ≡ letterAt i → number ≡ numberAt i
+pub field-is : (bs : List ℕ) (i : ℕ) {letter number : ℕ} {r : Said} → letter ≡ letterAt i → number ≡ numberAt i
     → r ≡ fieldOf (take (12 * i + 12 - 12 * i) (drop (12 * i) bs)) letter number → fieldAt bs i ≡ r
 unfolding fieldAt
 field-is bs i a b e = let twelve : 12 * i + 12 - 12 * i ≡ 12 = omega arith in rw (e, a, b, twelve)
 
-pub value-is : (bs : List ℕ) (i v : ℕ) → fieldAt bs i ≡ Value v → (valueAt bs i ≡ v) × (isValue (fieldAt bs i) ≡ true)
+pub value-is : (bs : List ℕ) (i v : ℕ) → fieldAt bs i ≡ says v → (valueAt bs i ≡ v) × (accepted (fieldAt bs i) ≡ true)
 unfolding valueAt
-value-is bs i v e = (rw e, rw e)
+value-is bs i v e = (ap (λ (s : Said). s .value) e, ap accepted e)
 
 -- past the last record nothing is said
 pub value-past : (bs : List ℕ) → Whole bs → (i : ℕ) → recordCount bs ≤ i → valueAt bs i ≡ 0
 unfolding valueAt fieldAt
 value-past bs w i h =
     let out : drop (12 * i) bs ≡ [] = drop-of-length-le bs {i = 12 * i} (omega (arith, w .exact)) in
-    rw (out, no-record (letterAt i) (numberAt i))
+    ap (λ (l : List ℕ). fieldOf (take 12 l) (letterAt i) (numberAt i) .value) out ∙ ap (λ (s : Said). s .value) (no-record (letterAt i) (numberAt i))
 
 -- ---- all records
 
 -- one that is refused refuses the sheet
-pub formed-not : (bs : List ℕ) (i : ℕ) → i < recordCount bs → fieldAt bs i ≡ Refused → recordsFormed bs ≡ false
+pub formed-not : (bs : List ℕ) (i : ℕ) → i < recordCount bs → fieldAt bs i ≡ wrongForm → recordsFormed bs ≡ false
 unfolding recordsFormed
-formed-not bs i h e = all-fails (λ i. isValue (fieldAt bs i)) (recordCount bs) i h (rw e)
+formed-not bs i h e = all-fails (λ i. accepted (fieldAt bs i)) (recordCount bs) i h (rw e)
 
 -- where none is, each says its value
-pub formed-of : (bs : List ℕ) → recordsFormed bs ≡ true → (i : ℕ) → i < recordCount bs → fieldAt bs i ≡ Value (valueAt bs i)
+pub formed-of : (bs : List ℕ) → recordsFormed bs ≡ true → (i : ℕ) → i < recordCount bs → fieldAt bs i ≡ says (valueAt bs i)
 unfolding recordsFormed valueAt
-formed-of bs e i h = is-value (fieldAt bs i) (all-below (λ j. isValue (fieldAt bs j)) (recordCount bs) e i h)
+formed-of bs e i h = is-value (fieldAt bs i) (all-below (λ j. accepted (fieldAt bs j)) (recordCount bs) e i h)
 
 -- past the last record there are zeros
 pub values-are : (bs : List ℕ) → Whole bs → map (valueAt bs) (below (recordCount bs)) ++ replicate (20 - recordCount bs) 0 ≡ valuesOf bs

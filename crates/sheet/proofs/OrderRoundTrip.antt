@@ -7,8 +7,7 @@ use lib.Seq.{take-all, take-add, drop-at, take-append-le, drop-append-le}
 use native.Mathlib.Omega.{arith}
 use native.Mathlib.Decide.{decLt}
 use native.Mathlib.Nat.{not-suc-le-zero}
-use Rattle.sheet.specs.Records.{fieldOf, recordOf}
-use Rattle.sheet.specs.declared.records.Field.the-variants.{Value}
+use Rattle.sheet.specs.Records.{says, fieldOf, recordOf}
 use Rattle.sheet.proofs.RecordsLaws.{record-length, record-is, field-written}
 use Rattle.sheet.specs.Order.{letterAt, numberAt, recordCount, fieldAt, valueAt, recordsOf}
 use Rattle.sheet.proofs.OrderReading.{Whole}
@@ -32,7 +31,7 @@ first-records bs value (suc n) f =
     rw (e, take-add (12 * n) 12 bs) (ap₂ _++_ (first-records bs value n (λ i b. f i (omega arith))) (f n (omega arith)))
 
 -- the records that say the values of a sheet are the sheet
-pub read-then-written : (bs : List ℕ) → Whole bs → ((i : ℕ) → i < recordCount bs → fieldAt bs i ≡ Value (valueAt bs i))
+pub read-then-written : (bs : List ℕ) → Whole bs → ((i : ℕ) → i < recordCount bs → fieldAt bs i ≡ says (valueAt bs i))
     → recordsOf (valueAt bs) (recordCount bs) ≡ bs
 unfolding recordAt recordFor fieldAt
 read-then-written bs whole formed =
@@ -70,7 +69,7 @@ record-at value (suc n) i h = go (decLt i n) (λ b. record-at value n i b)
 
 -- each says its value
 pub written-then-read : (value : ℕ → ℕ) (n i : ℕ) → n ≤ 20 → i < n → value i < 1000000
-    → fieldAt (recordsOf value n) i ≡ Value (value i)
+    → fieldAt (recordsOf value n) i ≡ says (value i)
 unfolding fieldAt recordAt recordFor
 written-then-read value n i few h small =
     ap (λ (r : List ℕ). fieldOf r (letterAt i) (numberAt i)) (record-at value n i h)

@@ -10,23 +10,20 @@ use borrow.Author.Tests.{eqb-true, eq-eqb}
 use native.Mathlib.Omega.{arith}
 use Rattle.lists.proofs.Tests.{both}
 use Rattle.lists.proofs.Tables.{by-length}
-use Rattle.sheet.specs.Records.{numberFrom, framed, onlyIf, fieldOf, isValue, valueIn, digitsOf, recordOf}
-use Rattle.sheet.specs.declared.records.Field.{Field}
-use Rattle.sheet.specs.declared.records.Field.the-variants.{Value, Refused}
+use Rattle.sheet.specs.Records.{Said, says, wrongForm, accepted, numberFrom, framed, onlyIf, fieldOf, digitsOf, recordOf}
 use Rattle.sheet.proofs.Digits.{no-value, read-written, written-read}
 
 -- ---- reading
 
-pub is-value : (f : Field) → isValue f ≡ true → f ≡ Value (valueIn f)
-is-value (Value v) e = refl
-is-value Refused e = let z : _≡_ {A = ℕ} 0 1 = cc in let w : ⊥ = omega arith in absurd w
+pub is-value : (f : Said) → accepted f ≡ true → f ≡ says (f .value)
+is-value f e = λ i. record { refusal = eqb-true (f .refusal) 0 e i; value = f .value }
 
 -- no bytes say nothing
-pub no-record : (letter number : ℕ) → fieldOf [] letter number ≡ Refused
+pub no-record : (letter number : ℕ) → fieldOf [] letter number ≡ wrongForm
 unfolding fieldOf framed
 no-record letter number = go (eqb 0 letter)
   where
-    go : (b : Bool) → cond (b && false) (onlyIf (numberFrom 0 []) number (numberFrom 0 [])) Refused ≡ Refused
+    go : (b : Bool) → cond (b && false) (onlyIf (numberFrom 0 []) number (numberFrom 0 [])) wrongForm ≡ wrongForm
     go true = refl
     go false = refl
 
@@ -49,20 +46,22 @@ record-length letter number value = refl
 -- ---- what a written record says
 
 pub field-written : (letter number value : ℕ) → number < 100 → value < 1000000
-    → fieldOf (recordOf letter number value) letter number ≡ Value value
+    → fieldOf (recordOf letter number value) letter number ≡ says value
 unfolding fieldOf framed recordOf digitsOf
 field-written letter number value h k =
     rw (eq-eqb letter letter refl, read-written 2 number h, eq-eqb number number refl) (read-written 6 value k)
 
 -- ---- a record that says a value is the record of that value
 
-cond-value : (b : Bool) (f : Field) (v : ℕ) → cond b f Refused ≡ Value v → (b ≡ true) × (f ≡ Value v)
+cond-value : (b : Bool) (f : Said) (v : ℕ) → cond b f wrongForm ≡ says v → (b ≡ true) × (f ≡ says v)
 cond-value true f v e = (refl, e)
 cond-value false f v e = absurd (no-value (sym e))
 
-only-value : (f g : Field) (wanted v : ℕ) → onlyIf f wanted g ≡ Value v → (f ≡ Value wanted) × (g ≡ Value v)
-only-value (Value w) g wanted v e = let (a, b) = cond-value (eqb w wanted) g v e in (ap Value (eqb-true w wanted a), b)
-only-value Refused g wanted v e = absurd (no-value (sym e))
+only-value : (f g : Said) (wanted v : ℕ) → onlyIf f wanted g ≡ says v → (f ≡ says wanted) × (g ≡ says v)
+only-value f g wanted v e =
+    let (a, b) = cond-value (accepted f && eqb (f .value) wanted) g v e in
+    let (read, same) = both (accepted f) (eqb (f .value) wanted) a in
+    (is-value f read ∙ ap says (eqb-true (f .value) wanted same), b)
 
 -- twelve bytes, taken apart
 abbrev parts : List ℕ → List ℕ
@@ -75,7 +74,7 @@ assemble : (letter b₀ b₁ b₄ b₁₁ : ℕ) (d₂ t₂ d₆ t₆ r : List �
     → r ≡ b₀ ∷ b₁ ∷ (t₂ ++ (b₄ ∷ (t₆ ++ (b₁₁ ∷ [])))) → letter ∷ 32 ∷ (d₂ ++ (32 ∷ (d₆ ++ (10 ∷ [])))) ≡ r
 assemble letter b₀ b₁ b₄ b₁₁ d₂ t₂ d₆ t₆ r e₀ e₁ e₄ e₁₁ f₂ f₆ g = cc
 
-pub record-is : (letter number v : ℕ) (r : List ℕ) → length r ≡ 12 → fieldOf r letter number ≡ Value v → recordOf letter number v ≡ r
+pub record-is : (letter number v : ℕ) (r : List ℕ) → length r ≡ 12 → fieldOf r letter number ≡ says v → recordOf letter number v ≡ r
 unfolding fieldOf framed recordOf
 record-is letter number v r e f =
     let (g, h) = cond-value (framed r letter) (onlyIf (numberFrom 0 (take 2 (drop 2 r))) number (numberFrom 0 (take 6 (drop 5 r)))) v f in

@@ -5,8 +5,7 @@ use mathlib.Core.List.{List, [], _∷_, _++_, map}
 use lib.ListN.{length, getD, take, drop}
 use lib.Dec.{leb, eqb}
 use Rattle.lists.specs.Lists.{below, all}
-use Rattle.sheet.specs.Records.{fieldOf, isValue, valueIn, recordOf}
-use Rattle.sheet.specs.declared.records.Field.{Field}
+use Rattle.sheet.specs.Records.{Said, accepted, fieldOf, recordOf}
 
 -- the letter of record i: W, C, P, M, then S
 unfoldable pub letterAt : ℕ → ℕ
@@ -26,14 +25,14 @@ unfoldable pub wholeRecords : List ℕ → Bool
 wholeRecords bs = eqb (length bs % 12) 0 && leb 5 (recordCount bs) && leb (recordCount bs) 20
 
 -- what record i of a sheet says, and its value: 0 where there is no such record
-unfoldable pub fieldAt : List ℕ → ℕ → Field
+unfoldable pub fieldAt : List ℕ → ℕ → Said
 fieldAt bs i = fieldOf (take 12 (drop (12 * i) bs)) (letterAt i) (numberAt i)
 
 unfoldable pub valueAt : List ℕ → ℕ → ℕ
-valueAt bs i = valueIn (fieldAt bs i)
+valueAt bs i = fieldAt bs i .value
 
 unfoldable pub recordsFormed : List ℕ → Bool
-recordsFormed bs = all (λ i. isValue (fieldAt bs i)) (below (recordCount bs))
+recordsFormed bs = all (λ i. accepted (fieldAt bs i)) (below (recordCount bs))
 
 -- the values of all the records that a sheet may have
 unfoldable pub valuesOf : List ℕ → List ℕ

@@ -2,9 +2,9 @@
 ghost use mathlib.Core.Path.{_≡_};
 ghost use Prim.Native.Nat.{_<_};
 ghost use lib.ListN.{length};
-ghost use Rattle.sheet.specs.Records.{numberFrom, framed, fieldOf, digitsOf, recordOf};
+ghost use Rattle.sheet.specs.Records.{saidBy, numberFrom, framed, fieldOf, digitsOf, recordOf};
 
-// What one record of a sheet says: a value, or a refusal.
+// What one record of a sheet says: a value, or a refusal. `saidBy` in specs/ gives each case the paper's number and value.
 pub enum Field {
     Value(u32),
     Refused,
@@ -13,7 +13,7 @@ pub enum Field {
 // The number that up to six digits spell. A comma, a point or any other byte that is no digit is refused.
 fn read_digits(digits: &[u8]) -> Field
     requires { ⌜ length (now digits) < 7 ⌝ }
-    ensures { λ r. ⌜ r ≡ numberFrom 0 (now (digits .entry)) ⌝ }
+    ensures { λ r. ⌜ saidBy r ≡ numberFrom 0 (now (digits .entry)) ⌝ }
 {
     let mut value: u32 = 0;
     let mut i = 0;
@@ -52,7 +52,7 @@ fn is_framed(record: &[u8], letter: u8) -> bool
 // record reads as an enum, value or refusal.
 pub fn read_record(record: &[u8], letter: u8, number: u32) -> Field
     requires { ⌜ length (now «record») ≡ 12 ⌝ }
-    ensures { λ r. ⌜ r ≡ fieldOf (now («record» .entry)) letter number ⌝ }
+    ensures { λ r. ⌜ saidBy r ≡ fieldOf (now («record» .entry)) letter number ⌝ }
 {
     if !is_framed(record, letter) {
         return Field::Refused;

@@ -1,4 +1,4 @@
-use mathlib.Core.Path.{_≡_, refl, sym, _∙_}
+use mathlib.Core.Path.{_≡_, refl, sym, ap, _∙_}
 use mathlib.Core.Bool.{true}
 use mathlib.Core.List.{_++_, map}
 use Prim.Native.Nat.{_≤_, _<_, _-_}
@@ -10,7 +10,7 @@ use Rattle.lists.specs.Lists.{below, all}
 use Rattle.lists.proofs.Tests.{and}
 use Rattle.lists.proofs.Tables.{table-more}
 use Rattle.lists.proofs.Loops.{all-next}
-use Rattle.sheet.specs.Records.{isValue}
+use Rattle.sheet.specs.Records.{accepted, saidBy}
 use Rattle.sheet.specs.Order.{recordCount, fieldAt, valueAt, recordsFormed}
 use Rattle.sheet.proofs.OrderReading.{whole-of, field-is, value-is, formed-not, values-are}
 use Rattle.sheet.proofs.order.read_values.Statement.{statement}
@@ -18,7 +18,7 @@ use Rattle.sheet.proofs.order.read_values.Tie as tie
 
 abbrev Inv-loop : tie.InvT-loop
 Inv-loop bytes count values₀ i₀ values i =
-    (i ≤ count) × (all (λ j. isValue (fieldAt bytes j)) (below i) ≡ true) × (values ≡ map (valueAt bytes) (below i) ++ replicate (20 - i) 0)
+    (i ≤ count) × (all (λ j. accepted (fieldAt bytes j)) (below i) ≡ true) × (values ≡ map (valueAt bytes) (below i) ++ replicate (20 - i) 0)
 
 abbrev μ-loop : tie.MeasureT-loop
 μ-loop bytes count values₀ i₀ values i = count - i
@@ -62,10 +62,11 @@ returns : tie.Need-returns Inv-loop μ-loop
 returns c =
     let bs = now (c .before .before .before .before .before .before .before .before .before .args .bytes) in
     let i = c .before .before .before .before .before .before .before .loop .i in
-    let field : fieldAt bs i ≡ c .before .before .read-record .result =
+    let field : fieldAt bs i ≡ saidBy (c .before .before .read-record .result) =
     field-is bs i (c .before .before .before .before .letter-at .ensures) (c .before .before .before .number-at .ensures)
     (c .before .before .read-record .ensures) in
-    rw (formed-not bs i (c .before .before .before .before .before .before .loop-test .taken) (field ∙ c .enum-told .given .1)) (refl, refl)
+    rw (formed-not bs i (c .before .before .before .before .before .before .loop-test .taken) (field ∙ ap saidBy (c .enum-told .given .1)))
+    (refl, refl)
 
 mul-values : tie.Need-mul-values Inv-loop μ-loop
 mul-values c = search needs
@@ -87,14 +88,14 @@ loop-again : tie.Need-loop-again Inv-loop μ-loop
 loop-again c =
     let bs = now (c .before .before .before .before .before .before .before .before .before .before .args .bytes) in
     let turn = c .before .before .before .before .before .before .before .before .loop in
-    let field : fieldAt bs (turn .i) ≡ c .before .before .before .read-record .result =
+    let field : fieldAt bs (turn .i) ≡ saidBy (c .before .before .before .read-record .result) =
     field-is bs (turn .i) (c .before .before .before .before .before .letter-at .ensures)
     (c .before .before .before .before .number-at .ensures) (c .before .before .before .read-record .ensures) in
-    let value = value-is bs (turn .i) (c .before .value .given .0 .0) (field ∙ c .before .value .given .1) in
+    let value = value-is bs (turn .i) (c .before .value .given .0 .0) (field ∙ ap saidBy (c .before .value .given .1)) in
     let room : turn .i < 20 = omega
     (arith, whole-of bs (c .before .before .before .before .before .before .before .before .before .before .pre) .high) in (
       omega arith,
-      sym (all-next (λ j. isValue (fieldAt bs j)) (turn .i)) ∙ and (turn .inv .1) (value .1),
+      sym (all-next (λ j. accepted (fieldAt bs j)) (turn .i)) ∙ and (turn .inv .1) (value .1),
       rw (turn .inv .2, ← value .0) (table-more (valueAt bs) 0 20 (turn .i) room),
     )
 
