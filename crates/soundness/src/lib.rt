@@ -89,7 +89,7 @@ fn sound(
         return false;
     }
     let window = settings.window;
-    let count = settings.count as usize;
+    let count = settings.count;
     let slot = clock.slot;
     let since = clock.since;
     let tick = settings.tick;
