@@ -14,7 +14,9 @@ cast-few c =
     omega (arith, limits-of (start .args .settings) (start .pre .0) .count-high)
 
 sound-threads-requires : tie.Need-sound-threads-requires
-sound-threads-requires c κs = search needs
+sound-threads-requires c κs =
+    let start = c .before .before in
+    omega (arith, limits-of (start .args .settings) (start .pre .0) .count-low)
 
 returns : tie.Need-returns
 returns c =
