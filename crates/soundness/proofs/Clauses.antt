@@ -1,40 +1,149 @@
--- The test of one thread's numbers, as the code has it, and what it comes to over all threads.
+-- The test of one thread's numbers, as the code makes it, and what it comes to over all threads.
 use mathlib.Core.Path.{_≡_, refl, ap, _∙_}
-use Prim.Native.Nat.{ℕ}
-use mathlib.Core.Bool.{Bool, true, false, not, cond, _&&_, _||_, and-true, and-assoc}
+use Prim.Native.Nat.{ℕ, _+_, _%_, _^_, min, max, _≤_, _<_}
+use mathlib.Core.Bool.{Bool, true, false, not, cond, _&&_, and-true, and-false}
+use lib.Bits.{bitAnd, bitOr, and-mask, and-zero-r, or-zero-r, or-lt, or-add-and, and-le-l}
 use lib.Dec.{eqb, leb, ltb}
 use lib.ListN.{getD}
+use native.Mathlib.Omega.{arith}
+use native.Mathlib.Decide.{ℕ-discrete, decLt}
+use borrow.Author.Tests.{lt-ltb, le-ltb, le-leb, lt-leb, eq-eqb, ne-eqb}
 use Rattle.lists.specs.Lists.{below, all}
-use Rattle.lists.proofs.Every.{all-same, all-both}
+use Rattle.lists.proofs.Every.{all-both}
+use Rattle.lists.proofs.Union.{or-below, or-none}
 use Rattle.model.specs.Arrays.{Columns, threadIn, plain}
 use Rattle.model.specs.Sound.{soundThread}
-use Rattle.soundness.specs.Records.{soundRecords}
+use Rattle.soundness.specs.Records.{soundRecords, OfAbsent, OfExisting}
 
--- a choice as two tests
-choice : (z a b : Bool) → ((not z || a) && (z || b)) ≡ cond z a b
-choice true a b = and-true a
-choice false a b = refl
+-- ---- a byte and the flag less 1, which is g
 
--- what the pass tests of thread t
+mod-small : (x : ℕ) → x < 256 → x % 2 ^ 8 ≡ x
+mod-small x h = omega arith
+
+full : (x : ℕ) → x < 256 → bitOr x 255 ≡ 255
+full x h = omega (arith, or-lt 8 x 255 h (omega arith), or-add-and x 255, and-le-l x 255)
+
+pub of-absent : (e x g : ℕ) → x < 256 → g < 256 → (g + 1) % 2 ^ 8 ≡ e → OfAbsent e x (bitAnd x g)
+of-absent e x g small fits h b = go (ℕ-discrete e 1)
+  where
+    go : Dec (e ≡ 1) → bitAnd x g ≡ cond (eqb e 1) 0 x
+    go (yes y) = let k : g ≡ 0 = omega arith in rw (eq-eqb e 1 y, k) (and-zero-r x)
+    go (no y) = let k : g ≡ 255 = omega arith in rw (ne-eqb e 1 y, k) (and-mask x 8 ∙ mod-small x small)
+
+pub of-existing : (e x g : ℕ) → x < 256 → g < 256 → (g + 1) % 2 ^ 8 ≡ e → OfExisting e x (bitOr x g)
+of-existing e x g small fits h b = go (ℕ-discrete e 1)
+  where
+    go : Dec (e ≡ 1) → bitOr x g ≡ cond (eqb e 1) x 255
+    go (yes y) = let k : g ≡ 0 = omega arith in rw (eq-eqb e 1 y, k) (or-zero-r x)
+    go (no y) = let k : g ≡ 255 = omega arith in rw (ne-eqb e 1 y, k) (full x small)
+
+-- ---- what is joined
+
+least-both : (a b : ℕ) → ltb 0 (min a b) ≡ (ltb 0 a && ltb 0 b)
+least-both a b = go (decLt 0 a) (decLt 0 b)
+  where
+    go : Dec (0 < a) → Dec (0 < b) → ltb 0 (min a b) ≡ (ltb 0 a && ltb 0 b)
+    go (yes p) (yes q) = rw (lt-ltb 0 (min a b) (omega arith), lt-ltb 0 a p, lt-ltb 0 b q)
+    go (yes p) (no q) = rw (le-ltb 0 (min a b) (omega arith), lt-ltb 0 a p, le-ltb 0 b (omega arith))
+    go (no p) q = rw (le-ltb 0 (min a b) (omega arith), le-ltb 0 a (omega arith))
+
+most-both : (a b n : ℕ) → ltb (max a b) n ≡ (ltb a n && ltb b n)
+most-both a b n = go (decLt a n) (decLt b n)
+  where
+    go : Dec (a < n) → Dec (b < n) → ltb (max a b) n ≡ (ltb a n && ltb b n)
+    go (yes p) (yes q) = rw (lt-ltb (max a b) n (omega arith), lt-ltb a n p, lt-ltb b n q)
+    go (yes p) (no q) = rw (le-ltb (max a b) n (omega arith), lt-ltb a n p, le-ltb b n (omega arith))
+    go (no p) q = rw (le-ltb (max a b) n (omega arith), le-ltb a n (omega arith))
+
+apart : (a b c d w x y z : Bool) → ((a && w) && (b && x) && (c && y) && (d && z)) ≡ ((a && b && c && d) && (w && x && y && z))
+apart true true true true w x y z = refl
+apart true true true false w x y z = and-false (w && x && y)
+apart true true false d w x y z = rw (and-false (w && x))
+apart true false c d w x y z = rw (and-false w)
+apart false b c d w x y z = refl
+
+-- the answer from the four bytes
+abbrev pub answer : ℕ → ℕ → ℕ → ℕ → ℕ → Bool
+answer count flags rest least most = ltb flags 2 && eqb rest 0 && ltb 0 least && ltb most count
+
+joined : (count flags rest least most f a b p : ℕ)
+    → answer count (bitOr flags f) (bitOr rest a) (min least b) (max most p) ≡ (answer count flags rest least most && answer count f a b p)
+joined count flags rest least most f a b p =
+    rw (← or-below 1 flags f, ← or-none rest a, least-both least b, most-both most p count)
+    (apart (ltb flags 2) (eqb rest 0) (ltb 0 least) (ltb most count) (ltb f 2) (eqb a 0) (ltb 0 b) (ltb p count))
+
+-- ---- one thread
+
+two : (x : ℕ) → ltb x 2 ≡ leb x 1
+two x = go (decLt x 2)
+  where
+    go : Dec (x < 2) → ltb x 2 ≡ leb x 1
+    go (yes p) = rw (lt-ltb x 2 p, le-leb x 1 (omega arith))
+    go (no p) = rw (le-ltb x 2 (omega arith), lt-leb x 1 (omega arith))
+
+some : (x : ℕ) → ltb 0 x ≡ not (eqb x 0)
+some x = go (decLt 0 x)
+  where
+    go : Dec (0 < x) → ltb 0 x ≡ not (eqb x 0)
+    go (yes p) = rw (lt-ltb 0 x p, ne-eqb x 0 (λ z. omega arith))
+    go (no p) = rw (le-ltb 0 x (omega arith), eq-eqb x 0 (omega arith))
+
+turn : (x y z : Bool) → ((x && true) && y && z) ≡ (x && (z && y))
+turn true true true = refl
+turn true true false = refl
+turn true false true = refl
+turn true false false = refl
+turn false y z = refl
+
+blank : (count r p : ℕ) (n m : Bool) → 1 ≤ count
+    → (leb r 1 && (eqb r 0 && eqb p 0 && n && m) && true && ltb p count) ≡ (leb r 1 && (not (eqb r 1) && eqb p 0 && n && m))
+blank count r p n m h = go (ℕ-discrete r 0) (ℕ-discrete p 0) (ℕ-discrete r 1)
+  where
+    go : Dec (r ≡ 0) → Dec (p ≡ 0) → Dec (r ≡ 1)
+        → (leb r 1 && (eqb r 0 && eqb p 0 && n && m) && true && ltb p count) ≡ (leb r 1 && (not (eqb r 1) && eqb p 0 && n && m))
+    go (yes x) (yes y) z =
+        rw (le-leb r 1 (omega arith), eq-eqb r 0 x, ne-eqb r 1 (λ v. omega arith), eq-eqb p 0 y, lt-ltb p count (omega arith), and-true (n && m), and-true (n && m))
+    go (yes x) (no y) z = rw (le-leb r 1 (omega arith), eq-eqb r 0 x, ne-eqb r 1 (λ v. omega arith), ne-eqb p 0 y)
+    go (no x) y (yes z) = rw (le-leb r 1 (omega arith), ne-eqb r 0 x, eq-eqb r 1 z)
+    go (no x) y (no z) = rw (lt-leb r 1 (omega arith))
+
+-- a thread's numbers are sound, and its flags 0 or 1
+abbrev pub proper : ℕ → ℕ → ℕ → ℕ → ℕ → ℕ → Bool
+proper count e r p n m =
+    (leb e 1 && leb r 1) && cond (eqb e 1) (ltb p count && not (eqb m 0)) (not (eqb r 1) && eqb p 0 && eqb n 0 && eqb m 0)
+
+answer-is : (count e r p n m a b : ℕ) → 1 ≤ count → OfAbsent e (bitOr (bitOr (bitOr r p) n) m) a → OfExisting e m b
+    → answer count (bitOr e r) a b p ≡ proper count e r p n m
+answer-is count e r p n m a b h f g = go (ℕ-discrete e 0) (ℕ-discrete e 1)
+  where
+    go : Dec (e ≡ 0) → Dec (e ≡ 1) → answer count (bitOr e r) a b p ≡ proper count e r p n m
+    go (yes x) y =
+        rw (← or-below 1 e r, lt-ltb e 2 (omega arith), two r, f (omega arith), g (omega arith), ne-eqb e 1 (λ v. omega arith), le-leb e 1 (omega arith))
+        (rw (← or-none (bitOr (bitOr r p) n) m, ← or-none (bitOr r p) n, ← or-none r p) (blank count r p (eqb n 0) (eqb m 0) h))
+    go (no x) (yes y) =
+        rw (← or-below 1 e r, lt-ltb e 2 (omega arith), two r, f (omega arith), g (omega arith), eq-eqb e 1 y, le-leb e 1 (omega arith), some m)
+        (turn (leb r 1) (not (eqb m 0)) (ltb p count))
+    go (no x) (no y) = rw (← or-below 1 e r, le-ltb e 2 (omega arith), lt-leb e 1 (omega arith))
+
+-- ---- all threads
+
+-- the test of thread t
 abbrev pub fine : ℕ → Columns → ℕ → Bool
-fine count ts t =
-    leb (getD (ts .exists) t 0) 1 && leb (getD (ts .ready) t 0) 1
-    && (not (eqb (getD (ts .exists) t 0) 1) || (ltb (getD (ts .partitions) t 0) count && not (eqb (getD (ts .masks) t 0) 0)))
-    && (eqb (getD (ts .exists) t 0) 1 || (not (eqb (getD (ts .ready) t 0) 1) && eqb (getD (ts .partitions) t 0) 0 && eqb (getD (ts .priorities) t 0) 0 && eqb (getD (ts .masks) t 0) 0))
+fine count ts t = (leb (getD (ts .exists) t 0) 1 && leb (getD (ts .ready) t 0) 1) && soundThread count (threadIn ts t)
 
 module _ (count : ℕ) (ts : Columns) where
-  fine-is : (t : ℕ) → fine count ts t ≡ ((leb (getD (ts .exists) t 0) 1 && leb (getD (ts .ready) t 0) 1) && soundThread count (threadIn ts t))
+  -- one thread more
+  pub fine-more : (t flags rest least most a b : ℕ) → 1 ≤ count
+      → OfAbsent (getD (ts .exists) t 0) (bitOr (bitOr (bitOr (getD (ts .ready) t 0) (getD (ts .partitions) t 0)) (getD (ts .priorities) t 0)) (getD (ts .masks) t 0)) a → OfExisting (getD (ts .exists) t 0) (getD (ts .masks) t 0) b
+      → answer count (bitOr flags (bitOr (getD (ts .exists) t 0) (getD (ts .ready) t 0))) (bitOr rest a) (min least b) (max most (getD (ts .partitions) t 0))
+      ≡ (answer count flags rest least most && fine count ts t)
   unfolding soundThread
-  fine-is t =
-      let flags : Bool = leb (getD (ts .exists) t 0) 1 && leb (getD (ts .ready) t 0) 1 in
-      let placed : Bool = ltb (getD (ts .partitions) t 0) count && not (eqb (getD (ts .masks) t 0) 0) in
-      let blank : Bool = not (eqb (getD (ts .ready) t 0) 1) && eqb (getD (ts .partitions) t 0) 0 && eqb (getD (ts .priorities) t 0) 0 && eqb (getD (ts .masks) t 0) 0 in
-      and-assoc flags (not (eqb (getD (ts .exists) t 0) 1) || placed) (eqb (getD (ts .exists) t 0) 1 || blank)
-      ∙ ap (λ (z : Bool). flags && z) (choice (eqb (getD (ts .exists) t 0) 1) placed blank)
+  fine-more t flags rest least most a b h f g =
+      joined count flags rest least most (bitOr (getD (ts .exists) t 0) (getD (ts .ready) t 0)) a b (getD (ts .partitions) t 0)
+      ∙ ap (λ (z : Bool). answer count flags rest least most && z) (answer-is count (getD (ts .exists) t 0) (getD (ts .ready) t 0) (getD (ts .partitions) t 0) (getD (ts .priorities) t 0) (getD (ts .masks) t 0) a b h f g)
 
   pub fine-all : all (fine count ts) (below 64) ≡ soundRecords count ts
   unfolding soundRecords plain
   fine-all =
-      all-same (fine count ts) (λ t. (leb (getD (ts .exists) t 0) 1 && leb (getD (ts .ready) t 0) 1) && soundThread count (threadIn ts t)) 64 (λ t b. fine-is t)
-      ∙ all-both (λ t. leb (getD (ts .exists) t 0) 1 && leb (getD (ts .ready) t 0) 1) (λ t. soundThread count (threadIn ts t)) 64
+      all-both (λ t. leb (getD (ts .exists) t 0) 1 && leb (getD (ts .ready) t 0) 1) (λ t. soundThread count (threadIn ts t)) 64
       ∙ ap (λ (z : Bool). z && all (λ t. soundThread count (threadIn ts t)) (below 64)) (all-both (λ t. leb (getD (ts .exists) t 0) 1) (λ t. leb (getD (ts .ready) t 0) 1) 64)

@@ -1,13 +1,15 @@
 -- All the parts are the model's soundness, with flags of 0 and 1.
-use mathlib.Core.Path.{_≡_, sym, _∙_}
+use mathlib.Core.Path.{_≡_, refl, sym, _∙_}
 use Prim.Native.Nat.{ℕ, _*_, _≤_, _<_}
-use mathlib.Core.Bool.{Bool, true, false, _&&_, and-false}
+use mathlib.Core.Bool.{Bool, true, false, cond, _&&_, _||_, and-false}
 use mathlib.Core.List.{List}
 use borrow.Author.Tests.{eq-eqb, ne-eqb, lt-ltb, le-ltb}
-use lib.Dec.{eqb, leb}
+use lib.Bits.{bitOr}
+use lib.Dec.{eqb, leb, ltb}
 use lib.ListN.{getD}
 use Rattle.lists.specs.Lists.{below, all}
 use Rattle.lists.proofs.Tests.{both, and, same}
+use Rattle.lists.proofs.Union.{or-none}
 use Rattle.sheet.specs.Settings.{W, C, withinLimits}
 use Rattle.sheet.specs.declared.Settings.{Settings}
 use Rattle.model.specs.State.{thread, allows}
@@ -35,6 +37,15 @@ module _ (r m : List ℕ) (t core : ℕ) where
   pub runs-inside : (t ≡ 255 → ⊥) → t < 64 → (b : Bool) → b ≡ allows (getD m t 0) core → (eqb (getD r t 0) 1 && b) ≡ runningFits r m t core
   unfolding runningFits
   runs-inside n near b e = rw (ne-eqb t 255 n, lt-ltb t 64 near, e)
+
+-- ---- one partition more of those past the last
+
+pub none-past : (p count x y bits v : ℕ) → v ≡ cond (ltb p count) 0 (bitOr x y) → eqb (bitOr bits v) 0 ≡ (eqb bits 0 && (ltb p count || (eqb x 0 && eqb y 0)))
+none-past p count x y bits v e = rw (← or-none bits v, e) (go (ltb p count))
+  where
+    go : (z : Bool) → (eqb bits 0 && eqb (cond z 0 (bitOr x y)) 0) ≡ (eqb bits 0 && (z || (eqb x 0 && eqb y 0)))
+    go true = refl
+    go false = rw (← or-none x y)
 
 -- ---- the whole
 

@@ -1,6 +1,8 @@
 -- The threads' records in their columns: when they are sound.
-use Prim.Native.Nat.{ℕ}
-use mathlib.Core.Bool.{Bool, _&&_}
+use mathlib.Core.Path.{_≡_}
+use Prim.Native.Nat.{ℕ, _≤_}
+use mathlib.Core.Bool.{Bool, cond, _&&_}
+use lib.Dec.{eqb}
 use Rattle.lists.specs.Lists.{below, all}
 use Rattle.model.specs.Arrays.{Columns, threadIn, flagsFit}
 use Rattle.model.specs.Sound.{soundThread}
@@ -8,3 +10,10 @@ use Rattle.model.specs.Sound.{soundThread}
 -- every flag is 0 or 1, and every record is sound, where there are `count` partitions
 unfoldable pub soundRecords : ℕ → Columns → Bool
 soundRecords count ts = flagsFit ts && all (λ t. soundThread count (threadIn ts t)) (below 64)
+
+-- x where the flag e of a thread is 0, and 0 where it is 1; and x where it is 1, and 255 where it is 0
+abbrev pub OfAbsent : ℕ → ℕ → ℕ → Type 0
+OfAbsent e x r = e ≤ 1 → r ≡ cond (eqb e 1) 0 x
+
+abbrev pub OfExisting : ℕ → ℕ → ℕ → Type 0
+OfExisting e x r = e ≤ 1 → r ≡ cond (eqb e 1) x 255

@@ -36,34 +36,48 @@ booksAgree h u w n slot most current =
 unfoldable pub allNarrow : List ℕ → Bool
 allNarrow l = all (λ i. ltb (getD l i 0) 4194304) (below (length l))
 
--- a total is its row's sum, and the row's numbers are narrow
-abbrev pub rowAgrees : List ℕ → List ℕ → ℕ → ℕ → Bool
-rowAgrees h u w p = allNarrow (rowIn h w p) && eqb (getD u p 0) (sum (rowIn h w p))
-
 -- ---- what the functions ask for and leave. Sums are made in 32 bits, and are right where all numbers are narrow
 
--- a row is added to the slots' sums
+-- k numbers of partition p's row, from slot a on
+abbrev pub partIn : List ℕ → ℕ → ℕ → ℕ → ℕ → List ℕ
+partIn h w a k p = take k (drop (p * w + a) h)
+
+-- f k is added to number k of a list, for each k below n, in 32 bits
+pub record Added (f : ℕ → ℕ) (l after : List ℕ) (n : ℕ) : Type 0 where
+  pub long : length after ≡ length l
+  pub done : (k : ℕ) → k < n → getD after k 0 ≡ (getD l k 0 + f k) % 2 ^ 32
+  pub left : (k : ℕ) → n ≤ k → getD after k 0 ≡ getD l k 0
+
+-- a part of a row is added up, and each of its numbers to its slot's sum
 pub record RowAdded (row sums : List ℕ) (r : Row) (after : List ℕ) : Type 0 where
   pub narrow : r .narrow ≡ allNarrow row
   pub total : r .sum .0 ≡ sum row % 2 ^ 32
-  pub long : length after ≡ 400
-  pub slot : (k : ℕ) → k < length row → getD after k 0 ≡ (getD sums k 0 + getD row k 0) % 2 ^ 32
+  pub slots : Added (λ k. getD row k 0) sums after (length row)
 
--- n rows of w numbers beside the slots' sums
-pub record RowsFit (h sums : List ℕ) (w n : ℕ) : Type 0 where
+-- n rows of w numbers
+pub record Rows (h : List ℕ) (w n : ℕ) : Type 0 where
   pub few : n ≤ 16
   pub short : w ≤ 400
   pub inside : n * w ≤ length h
-  pub sums-long : length sums ≡ 400
-  pub slot-small : (k : ℕ) → k < w → getD sums k 0 < 2 ^ 32
 
--- they are added to the slots' sums
-abbrev pub RowsAdded : List ℕ → List ℕ → ℕ → List ℕ → ℕ → Type 0
-RowsAdded h sums w after n = (k : ℕ) → k < w → getD after k 0 ≡ (getD sums k 0 + slotIn h w n k) % 2 ^ 32
+-- and k of their slots, from slot a on, beside the rows' sums
+pub record Block (h : List ℕ) (w n a k : ℕ) (rows : List ℕ) : Type 0 where
+  pub held : Rows h w n
+  pub small : k ≤ 128
+  pub ends : a + k ≤ w
+  pub rows-long : length rows ≡ 16
+
+-- the parts of the rows are added to the rows' sums
+abbrev pub RowsAdded : List ℕ → ℕ → ℕ → ℕ → ℕ → List ℕ → List ℕ → Type 0
+RowsAdded h w n a k rows after = Added (λ p. sum (partIn h w a k p)) rows after n
+
+-- what is found of a block: whether all its numbers are narrow, its slots' sums, and the rows' sums as far as its end
+pub record BlockAdded (h : List ℕ) (w n a k : ℕ) (rows sums : List ℕ) (narrow : Bool) (rows′ sums′ : List ℕ) : Type 0 where
+  pub fine : narrow ≡ all (λ p. allNarrow (partIn h w a k p)) (below n)
+  pub slots : Added (λ i. slotIn h w n (a + i)) sums sums′ k
+  pub totals : RowsAdded h w n a k rows rows′
 
 -- what the whole test asks for
 pub record Given (h : List ℕ) (w n most : ℕ) : Type 0 where
-  pub few : n ≤ 16
-  pub short : w ≤ 400
-  pub inside : n * w ≤ length h
+  pub held : Rows h w n
   pub low : most < 4194304

@@ -9,8 +9,9 @@ use refusals::Refusal;
 use sheet::Settings;
 use threads::masks;
 ghost use mathlib.Core.Path.{_≡_};
-ghost use mathlib.Core.Bool.{true};
+ghost use mathlib.Core.Bool.{cond, true};
 ghost use Prim.Native.Nat.{_*_, _≤_};
+ghost use lib.Dec.{ltb};
 ghost use lib.ListN.{length};
 ghost use Rattle.refusals.specs.Refusals.{outcomeOf};
 ghost use Rattle.sheet.specs.Settings.{W, withinLimits};
@@ -28,18 +29,28 @@ fn within_limits(settings: Settings) -> bool
     }
 }
 
+// A number that must be zero past the last partition: 0 for a partition below the count.
+fn past(p: u32, count: u32, number: u32) -> u32
+    ensures { λ r. ⌜ r ≡ cond (ltb p count) 0 number ⌝ }
+{
+    if p < count { 0 } else { number }
+}
+
 // "shares and totals past the last partition all zero"
 fn rest_zero(settings: Settings, used: &[u32; 16]) -> bool
     ensures { λ r. ⌜ r ≡ restZero settings (now (used .entry)) ⌝ }
 {
-    let count = settings.count as usize;
-    let mut ok = true;
-    let mut p: usize = 0;
+    let count = settings.count;
+    let mut bits: u32 = 0;
+    let mut p: u32 = 0;
     while p < 16 {
-        ok = ok & ((p < count) | ((settings.shares[p].0 == 0) & (used[p] == 0)));
+        let at = p as usize;
+        let share = settings.shares[at].0;
+        let held = used[at];
+        bits = bits | past(p, count, share | held);
         p += 1;
     }
-    ok
+    bits == 0
 }
 
 // "the running one idle, or in the line and allowed"
@@ -85,7 +96,7 @@ fn sound(
         return false;
     }
     let window = settings.window;
-    let count = settings.count as usize;
+    let count = settings.count;
     let slot = clock.slot;
     let since = clock.since;
     let tick = settings.tick;

@@ -1,10 +1,41 @@
 // The threads' records, which five lent arrays hold: whether each is sound.
+use std::num::wrapping_sub_u8;
 ghost use mathlib.Core.Path.{_≡_};
+ghost use Prim.Native.Nat.{_≤_, min, max};
 ghost use Rattle.model.specs.Arrays.{columns};
-ghost use Rattle.soundness.specs.Records.{soundRecords};
+ghost use Rattle.soundness.specs.Records.{soundRecords, OfAbsent, OfExisting};
+
+// The smaller of two bytes.
+fn smaller(a: u8, b: u8) -> u8
+    ensures { λ r. ⌜ r ≡ min a b ⌝ }
+{
+    if a < b { a } else { b }
+}
+
+// The larger of two bytes.
+fn larger(a: u8, b: u8) -> u8
+    ensures { λ r. ⌜ r ≡ max a b ⌝ }
+{
+    if a < b { b } else { a }
+}
+
+// A byte of a thread that does not exist, and 0 of one that does. The flag less 1 is 255 or 0.
+fn of_absent(exists: u8, byte: u8) -> u8
+    ensures { λ r. ⌜ OfAbsent exists byte r ⌝ }
+{
+    byte & wrapping_sub_u8(exists, 1)
+}
+
+// A byte of a thread that exists, and 255 of one that does not.
+fn of_existing(exists: u8, byte: u8) -> u8
+    ensures { λ r. ⌜ OfExisting exists byte r ⌝ }
+{
+    byte | wrapping_sub_u8(exists, 1)
+}
 
 // "existing threads with a valid partition and a mask other than 0", "records of absent threads .. all zero", and each flag 0 or 1. One pass
-// without branches, so that it can be done for several threads at a time.
+// without branches, on bytes alone, so that it can be done for several threads at a time: what is tested of all threads is joined in four
+// bytes. A flag above 1 makes nothing of the others certain, but it shows in `flags`.
 pub fn sound_threads(
     exists: &[u8; 64],
     ready: &[u8; 64],
@@ -13,22 +44,28 @@ pub fn sound_threads(
     masks: &[u8; 64],
     count: u8,
 ) -> bool
+    requires { ⌜ 1 ≤ count ⌝ }
     ensures { λ b. ⌜
         b ≡ soundRecords count (columns (now (exists .entry)) (now (ready .entry)) (now (partitions .entry)) (now (priorities .entry)) (now (masks .entry)))
         ⌝ }
 {
-    let mut ok = true;
-    let mut t: usize = 0;
+    let mut flags: u8 = 0;
+    let mut rest: u8 = 0;
+    let mut least: u8 = 255;
+    let mut most: u8 = 0;
+    let mut t: u32 = 0;
     while t < 64 {
-        let e = exists[t];
-        let r = ready[t];
-        let p = partitions[t];
-        let n = priorities[t];
-        let m = masks[t];
-        let placed = (p < count) & !(m == 0);
-        let blank = !(r == 1) & (p == 0) & (n == 0) & (m == 0);
-        ok = ok & ((e <= 1) & (r <= 1) & (!(e == 1) | placed) & ((e == 1) | blank));
+        let at = t as usize;
+        let e = exists[at];
+        let r = ready[at];
+        let p = partitions[at];
+        let n = priorities[at];
+        let m = masks[at];
+        flags = flags | (e | r);
+        rest = rest | of_absent(e, r | p | n | m);
+        least = smaller(least, of_existing(e, m));
+        most = larger(most, p);
         t += 1;
     }
-    ok
+    (flags < 2) & (rest == 0) & (0 < least) & (most < count)
 }

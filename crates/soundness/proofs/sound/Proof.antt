@@ -15,7 +15,9 @@ cast-few c =
     omega (arith, limits-of (start .args .settings) (start .pre .0) .count-high)
 
 sound-threads-requires : tie.Need-sound-threads-requires
-sound-threads-requires c κs = search needs
+sound-threads-requires c κs =
+    let start = c .before .before in
+    omega (arith, limits-of (start .args .settings) (start .pre .0) .count-low)
 
 returns : tie.Need-returns
 returns c =
@@ -36,12 +38,9 @@ returns-2 c =
     bad-queue (a .settings) (now (a .used)) (a .clock) (columns (now (a .exists)) (now (a .ready)) (now (a .partitions)) (now (a .priorities)) (now (a .masks))) (now (a .queue)) (now (a .history))
     (start .pre .0) (queue .result) (queue .ensures) (not-true (queue .result) (c .if2 .taken))
 
-cast-count : tie.Need-cast-count
-cast-count c = search needs
-
 twice-requires : tie.Need-twice-requires
 twice-requires c κs =
-    let start = c .before .before .before .before .before .before .before .before .before .before .before in
+    let start = c .before .before .before .before .before .before .before .before .before .before in
     omega (arith, limits-of (start .args .settings) (start .pre .0) .tick-high)
 
 rest-zero-requires : tie.Need-rest-zero-requires
@@ -49,18 +48,18 @@ rest-zero-requires c κs = search needs
 
 running-fits-requires : tie.Need-running-fits-requires
 running-fits-requires c κs =
-    let start = c .before .before .before .before .before .before .before .before .before .before .before .before .before .before .before in
+    let start = c .before .before .before .before .before .before .before .before .before .before .before .before .before .before in
     limits-of (start .args .settings) (start .pre .0) .core
 
 books-agree-requires : tie.Need-books-agree-requires
 books-agree-requires c κs =
-    let start = c .before .before .before .before .before .before .before .before .before .before .before .before .before .before .before .before in
+    let start = c .before .before .before .before .before .before .before .before .before .before .before .before .before .before .before in
     let limits = limits-of (start .args .settings) (start .pre .0) in
-    record { few = limits .count-high; short = limits .window-high; inside = start .pre .1; low = omega (arith, limits .tick-high) }
+    record { held = record { few = limits .count-high; short = limits .window-high; inside = start .pre .1 }; low = omega (arith, limits .tick-high) }
 
 returns-3 : tie.Need-returns-3
 returns-3 c =
-    let queue = c .before .before .before .before .before .before .before .before .before .before .before .before in
+    let queue = c .before .before .before .before .before .before .before .before .before .before .before in
     let threads = queue .before .before in
     let start = threads .before .before .before in
     let a = start .args in
@@ -68,7 +67,7 @@ returns-3 c =
     rw most (last-parts (a .settings) (now (a .used)) (a .clock) (columns (now (a .exists)) (now (a .ready)) (now (a .partitions)) (now (a .priorities)) (now (a .masks))) (now (a .queue)) (now (a .history))
     (start .pre .0) (threads .sound-threads .result) (queue .sound-queue .result) _ _ _
     (threads .sound-threads .ensures) (not-false (threads .sound-threads .result) (queue .before .if1 .left))
-    (queue .sound-queue .ensures) (not-false (queue .sound-queue .result) (c .before .before .before .before .before .before .before .before .before .before .before .if2 .left))
+    (queue .sound-queue .ensures) (not-false (queue .sound-queue .result) (c .before .before .before .before .before .before .before .before .before .before .if2 .left))
     (c .before .before .rest-zero .ensures) (c .before .running-fits .ensures) (rw most at (c .books-agree .ensures)))
 
 pub sound-spec : {M : Type 1} → statement M
@@ -80,7 +79,6 @@ sound-spec =
     returns
     sound-queue-requires
     returns-2
-    cast-count
     twice-requires
     rest-zero-requires
     running-fits-requires

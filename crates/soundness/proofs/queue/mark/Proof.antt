@@ -36,6 +36,9 @@ loop-holds c =
       subst (λ (l : List ℕ). Seen l (take 0 (rests q))) (sym none) (seen-none q),
     )
 
+cast-place : tie.Need-cast-place Inv-loop μ-loop
+cast-place c = search needs
+
 element-copy-out-entry : tie.Need-element-copy-out-entry Inv-loop μ-loop
 element-copy-out-entry c = search needs
 
@@ -83,6 +86,7 @@ mark-spec =
     Inv-loop
     μ-loop
     loop-holds
+    cast-place
     element-copy-out-entry
     cast-at
     element-copy-out-again

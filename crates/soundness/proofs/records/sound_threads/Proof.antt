@@ -1,26 +1,31 @@
 -- `sound_threads` tests every thread's numbers.
-use mathlib.Core.Path.{_≡_, refl, ap, _∙_}
+use mathlib.Core.Path.{_≡_, ap, _∙_}
 use Prim.Native.Nat.{ℕ, _≤_, _-_}
 use native.Mathlib.Omega.{arith}
 use borrow.Author.Needs.{needs}
+use borrow.Author.Tests.{lt-ltb}
 use denote.Ref.{now}
 use Rattle.lists.specs.Lists.{all, below}
 use Rattle.lists.proofs.Loops.{all-next}
 use Rattle.model.specs.Arrays.{columns}
-use Rattle.soundness.proofs.Clauses.{fine, fine-all}
+use Rattle.soundness.proofs.Clauses.{answer, fine, fine-more, fine-all}
 use Rattle.soundness.proofs.records.sound_threads.Statement.{statement}
 use Rattle.soundness.proofs.records.sound_threads.Tie as tie
 
 abbrev Inv-loop : tie.InvT-loop
-Inv-loop exists ready partitions priorities masks count ok₀ t₀ ok t =
-    (t ≤ 64) × (ok ≡ all (fine count (columns exists ready partitions priorities masks)) (below t))
+Inv-loop exists ready partitions priorities masks count flags₀ rest₀ least₀ most₀ t₀ flags rest least most t =
+    (t ≤ 64) × (answer count flags rest least most ≡ all (fine count (columns exists ready partitions priorities masks)) (below t))
 
 abbrev μ-loop : tie.MeasureT-loop
-μ-loop exists ready partitions priorities masks count ok₀ t₀ ok t = 64 - t
+μ-loop exists ready partitions priorities masks count flags₀ rest₀ least₀ most₀ t₀ flags rest least most t =
+    64 - t
 
 loop-holds : tie.Need-loop-holds Inv-loop μ-loop
 unfolding all below
-loop-holds c = (omega arith, refl)
+loop-holds c = (omega arith, rw (lt-ltb 0 (c .args .count) (c .pre)))
+
+cast-at : tie.Need-cast-at Inv-loop μ-loop
+cast-at c = search needs
 
 element-copy-out-e : tie.Need-element-copy-out-e Inv-loop μ-loop
 element-copy-out-e c = search needs
@@ -37,6 +42,18 @@ element-copy-out-n c = search needs
 element-copy-out-m : tie.Need-element-copy-out-m Inv-loop μ-loop
 element-copy-out-m c = search needs
 
+of-absent-requires : tie.Need-of-absent-requires Inv-loop μ-loop
+of-absent-requires c κs = search needs
+
+of-existing-requires : tie.Need-of-existing-requires Inv-loop μ-loop
+of-existing-requires c κs = search needs
+
+smaller-requires : tie.Need-smaller-requires Inv-loop μ-loop
+smaller-requires c κs = search needs
+
+larger-requires : tie.Need-larger-requires Inv-loop μ-loop
+larger-requires c κs = search needs
+
 add-t : tie.Need-add-t Inv-loop μ-loop
 add-t c = search needs
 
@@ -45,18 +62,25 @@ loop-less c = search needs
 
 loop-again : tie.Need-loop-again Inv-loop μ-loop
 loop-again c =
-    let a = c .before .before .before .before .before .before .before .args in
-    let turn = c .before .before .before .before .before .before .loop in
-    (omega arith, rw (turn .inv .1) (all-next (fine (a .count) (columns (now (a .exists)) (now (a .ready)) (now (a .partitions)) (now (a .priorities)) (now (a .masks)))) (turn .t)))
+    let absent = c .before .before .before in
+    let start = absent .before .before .before .before .before .before .before .before in
+    let turn = absent .before .before .before .before .before .before .before .loop in
+    let a = start .args in
+    let ts = columns (now (a .exists)) (now (a .ready)) (now (a .partitions)) (now (a .priorities)) (now (a .masks)) in (
+      omega arith,
+      rw (c .larger .ensures, c .before .smaller .ensures)
+          (fine-more (a .count) ts (turn .t) (turn .flags) (turn .rest) (turn .least) (turn .most) (absent .of-absent .result) (c .before .before .of-existing .result)
+          (start .pre) (absent .of-absent .ensures) (c .before .before .of-existing .ensures)
+          ∙ rw (turn .inv .1) (all-next (fine (a .count) ts) (turn .t))),
+    )
 
 returns : tie.Need-returns Inv-loop μ-loop
 returns c =
     let a = c .before .before .args in
     let turn = c .before .loop in
+    let ts = columns (now (a .exists)) (now (a .ready)) (now (a .partitions)) (now (a .priorities)) (now (a .masks)) in
     let e : turn .t ≡ 64 = omega arith in
-    turn .inv .1
-    ∙ ap (λ (k : ℕ). all (fine (a .count) (columns (now (a .exists)) (now (a .ready)) (now (a .partitions)) (now (a .priorities)) (now (a .masks)))) (below k)) e
-    ∙ fine-all (a .count) (columns (now (a .exists)) (now (a .ready)) (now (a .partitions)) (now (a .priorities)) (now (a .masks)))
+    turn .inv .1 ∙ ap (λ (k : ℕ). all (fine (a .count) ts) (below k)) e ∙ fine-all (a .count) ts
 
 pub sound-threads-spec : {M : Type 1} → statement M
 sound-threads-spec =
@@ -65,11 +89,16 @@ sound-threads-spec =
     Inv-loop
     μ-loop
     loop-holds
+    cast-at
     element-copy-out-e
     element-copy-out-r
     element-copy-out-p
     element-copy-out-n
     element-copy-out-m
+    of-absent-requires
+    of-existing-requires
+    smaller-requires
+    larger-requires
     add-t
     loop-less
     loop-again

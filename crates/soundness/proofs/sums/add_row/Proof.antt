@@ -1,20 +1,20 @@
--- `add_row` adds a row's numbers up, and each to its slot.
-use mathlib.Core.Path.{_≡_, refl, ap, _∙_}
+-- `add_row` adds the numbers of a part of a row up, and each to its slot.
+use mathlib.Core.Path.{_≡_, refl, ap, subst, _∙_}
 use Prim.Native.Nat.{ℕ, _≤_, _<_, _-_, _%_, _^_}
 use mathlib.Core.Bool.{Bool}
 use mathlib.Core.List.{List}
 use native.Mathlib.Omega.{arith}
 use borrow.Author.Needs.{needs}
 use lib.Dec.{ltb}
-use lib.ListN.{length, getD, take, length-set}
+use lib.ListN.{length, getD, take}
 use lib.Seq.{take-length}
 use denote.Ref.{now}
 use Rattle.lists.specs.Lists
 use Rattle.lists.specs.Lists.{all, below}
 use Rattle.lists.proofs.Loops.{all-next}
 use Rattle.lists.proofs.Union.{or-below}
-use Rattle.soundness.specs.Sums.{allNarrow}
-use Rattle.soundness.proofs.Passes.{sum-wraps, Partly, partly-none, partly-more}
+use Rattle.soundness.specs.Sums.{allNarrow, Added}
+use Rattle.soundness.proofs.Passes.{sum-wraps, added-none, added-more}
 use Rattle.soundness.proofs.sums.add_row.Statement.{statement}
 use Rattle.soundness.proofs.sums.add_row.Tie as tie
 
@@ -22,18 +22,24 @@ abbrev small : List ℕ → ℕ → Bool
 small l i = ltb (getD l i 0) 4194304
 
 abbrev Inv-loop : tie.InvT-loop
-Inv-loop row sums₀ sum₀ bits₀ k₀ sums sum bits k =
+Inv-loop row sums₀ size sum₀ bits₀ k₀ sums sum bits k =
     (k ≤ length row) × (ltb bits 4194304 ≡ all (small row) (below k)) × (sum ≡ Lists.sum (take k row) % 2 ^ 32)
-    × (length sums ≡ 400) × Partly row sums₀ sums k
+    × Added (λ i. getD row i 0) sums₀ sums k
 
 abbrev μ-loop : tie.MeasureT-loop
-μ-loop row sums₀ sum₀ bits₀ k₀ sums sum bits k = length row - k
+μ-loop row sums₀ size sum₀ bits₀ k₀ sums sum bits k = length row - k
+
+cast-size : tie.Need-cast-size Inv-loop μ-loop
+cast-size c = search needs
 
 loop-holds : tie.Need-loop-holds Inv-loop μ-loop
 unfolding all below
 loop-holds c =
     let start = c .before in
-    (omega arith, refl, refl, start .pre .1, partly-none (now (start .args .row)) (now (start .args .sums)))
+    (omega arith, refl, refl, added-none (λ i. getD (now (start .args .row)) i 0) (now (start .args .sums)))
+
+cast-at : tie.Need-cast-at Inv-loop μ-loop
+cast-at c = search needs
 
 mul-x : tie.Need-mul-x Inv-loop μ-loop
 mul-x c = search needs
@@ -75,8 +81,7 @@ loop-again c =
       omega (arith, here),
       rw (← or-below 22 (turn .bits) (getD l (turn .k) 0), turn .inv .1) (all-next (small l) (turn .k)),
       sum-wraps l (turn .k) (turn .sum) (call .wrapping-add-u32 .result) here (turn .inv .2) (call .wrapping-add-u32 .ensures),
-      rw length-set (turn .inv .3),
-      partly-more l (now (start .args .sums)) (turn .sums) (turn .k) (c .wrapping-add-u322 .result) (omega (arith, turn .inv .3, start .pre .0)) (c .wrapping-add-u322 .ensures) (turn .inv .4),
+      added-more (λ i. getD l i 0) (now (start .args .sums)) (turn .sums) (turn .k) (c .wrapping-add-u322 .result) (omega (arith, turn .inv .3 .long, start .pre .0, start .pre .1)) (c .wrapping-add-u322 .ensures) (turn .inv .3),
     )
 
 returns : tie.Need-returns Inv-loop μ-loop
@@ -89,8 +94,7 @@ returns c =
     record {
       narrow = turn .inv .1 ∙ ap (λ (n : ℕ). all (small l) (below n)) e;
       total = turn .inv .2 ∙ ap (λ (x : List ℕ). Lists.sum x % 2 ^ 32) (ap (λ (n : ℕ). take n l) e ∙ take-length l);
-      long = turn .inv .3;
-      slot = λ k b. turn .inv .4 .added k (omega arith);
+      slots = subst (λ (n : ℕ). Added (λ i. getD l i 0) (now (start .args .sums)) (turn .sums) n) e (turn .inv .3);
     }
 
 pub add-row-spec : {M : Type 1} → statement M
@@ -99,7 +103,9 @@ add-row-spec =
     (tie.spec
     Inv-loop
     μ-loop
+    cast-size
     loop-holds
+    cast-at
     mul-x
     shared-slice-read-x
     wrapping-add-u32-requires

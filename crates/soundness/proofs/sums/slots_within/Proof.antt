@@ -1,4 +1,4 @@
--- `slots_within` tests every slot's sum.
+-- `slots_within` tests the slots' sums.
 use mathlib.Core.Path.{_≡_, refl, ap, _∙_}
 use Prim.Native.Nat.{ℕ, _≤_, _-_}
 use mathlib.Core.Bool.{Bool}
@@ -17,17 +17,17 @@ abbrev within : List ℕ → ℕ → ℕ → Bool
 within s most k = leb (getD s k 0) most
 
 abbrev Inv-loop : tie.InvT-loop
-Inv-loop sums most w ok₀ k₀ ok k = (k ≤ w) × (ok ≡ all (within sums (most .0)) (below k))
+Inv-loop sums size most ok₀ k₀ ok k = (k ≤ size) × (ok ≡ all (within sums (most .0)) (below k))
 
 abbrev μ-loop : tie.MeasureT-loop
-μ-loop sums most w ok₀ k₀ ok k = w - k
-
-cast-w : tie.Need-cast-w Inv-loop μ-loop
-cast-w c = search needs
+μ-loop sums size most ok₀ k₀ ok k = size - k
 
 loop-holds : tie.Need-loop-holds Inv-loop μ-loop
 unfolding all below
 loop-holds c = (omega arith, refl)
+
+cast-at : tie.Need-cast-at Inv-loop μ-loop
+cast-at c = search needs
 
 mul-ok : tie.Need-mul-ok Inv-loop μ-loop
 mul-ok c = search needs
@@ -43,14 +43,14 @@ loop-less c = search needs
 
 loop-again : tie.Need-loop-again Inv-loop μ-loop
 loop-again c =
-    let start = c .before .before .before .before .before in
+    let start = c .before .before .before .before in
     let turn = c .before .before .before .loop in
     (omega arith, rw (turn .inv .1) (all-next (within (now (start .args .sums)) (start .args .most .0)) (turn .k)))
 
 returns : tie.Need-returns Inv-loop μ-loop
 returns c =
-    let start = c .before .before .before in
-    let e : c .before .loop .k ≡ start .args .window .0 = omega arith in
+    let start = c .before .before in
+    let e : c .before .loop .k ≡ start .args .size = omega arith in
     c .before .loop .inv .1 ∙ ap (λ (n : ℕ). all (within (now (start .args .sums)) (start .args .most .0)) (below n)) e
 
 pub slots-within-spec : {M : Type 1} → statement M
@@ -59,8 +59,8 @@ slots-within-spec =
     (tie.spec
     Inv-loop
     μ-loop
-    cast-w
     loop-holds
+    cast-at
     mul-ok
     element-copy-out-ok
     add-k
