@@ -6,6 +6,7 @@ use Rattle.invariants.proofs.Soundness as Soundness
 use Rattle.invariants.proofs.Once as Once
 use Rattle.invariants.proofs.Choices as Choices
 use Rattle.guarantee.proofs.Totals as Totals
+use Rattle.guarantee.proofs.Apart as Apart
 use Rattle.guarantee.proofs.Account as Account
 use Rattle.guarantee.proofs.Refused as Refused
 use Rattle.guarantee.proofs.Known as Known
@@ -41,6 +42,7 @@ promised = record {
   chooses-one = Choices.chooses-one;
   budget-first = Choices.budget-first;
   totals-from = Totals.totals-from;
+  held-and-charged = Apart.held-and-charged;
   totals = Totals.totals;
   account = Account.account;
   answers = Account.answers;

@@ -38,6 +38,7 @@ pub record Promised : Type 0 where
   pub budget-first : Invariants.BudgetFirst
   -- lists of events, on the definitions
   pub totals-from : Ledger.TotalsFrom
+  pub held-and-charged : Ledger.HeldAndCharged
   pub totals : Ledger.Totals
   pub account : Account.Account
   pub answers : Account.Answers

@@ -116,7 +116,8 @@ UsesAreRun =
 
 -- ---- demand 3
 
--- entries that say what was seen: the records that were taken, and the lines that answered them. Demand 3 looks at nothing else in an entry
+-- entries that say what was seen: the records that were taken, and the lines that answered them. Demand 3 looks at nothing else in an entry. The
+-- entries of the calls that UsesAreCalls gives are such
 pub record ReadFrom (uses : List Use) (es : List Entry) : Type 0 where
   pub events : map (λ e. e .event) es ≡ allRecords uses
   pub lines : map (λ e. answerLine (e .answer)) es ≡ allLines uses
