@@ -17,9 +17,11 @@ LITTLE = "little"
 DRAWN = (BLOCKED, ELSEWHERE, READY, LITTLE, RUNNING)
 HEIGHT = 1000
 LABELS = 10
-MOST_TICKS = 400
+MOST_TICKS = 100
+# more resumes than this are drawn beside the ticks alone, and not through every lane
+MOST_RESUMES = 30
 # refusals nearer than this part of the width share a mark; so many are listed in words
-TOGETHER = 0.04
+TOGETHER = 0.05
 MOST_LISTED = 500
 LEGEND = ((RUNNING, "running"), (LITTLE, "running a little, where the time is too short to draw"), (READY, "waiting: ready, and another runs"),
           (BLOCKED, "asleep"), (ELSEWHERE, "ready, on other cores alone"), ("level", "used in the window"), ("over", "used beyond the budget"),
@@ -79,9 +81,8 @@ def paths(spans, scale):
     return "".join(f'<path class="{kind}" d="{"".join(parts)}"/>' for kind, parts in strokes.items() if parts)
 
 
-def drawing(inside, height, grid=True):
-    lines = '<use href="#grid"/>' if grid else ""
-    return f'<svg viewBox="0 0 {WIDTH} {height}" preserveAspectRatio="none">{lines}{inside}</svg>'
+def drawing(inside, height):
+    return f'<svg viewBox="0 0 {WIDTH} {height}" preserveAspectRatio="none"><use href="#grid"/>{inside}</svg>'
 
 
 def row(kind, name, lane):
@@ -138,15 +139,22 @@ def step_of(number, most):
     return step
 
 
-def uprights(times, scale, height, kind):
-    return f'<path class="{kind}" d="{"".join(f"M{scale.x(time)} 0v{height}" for time in times)}"/>'
+def uprights(times, scale, kind):
+    """Lines from top to bottom, one for all times within a pixel."""
+    places = {scale.x(time) // PIXEL: scale.x(time) for time in times}
+    return f'<path class="{kind}" d="{"".join(f"M{place} 0v{HEIGHT}" for place in places.values())}"/>'
 
 
 def ticks_row(lanes, scale):
     """The ticks with the numbers of some, and the grid that all other drawings repeat."""
     labelled, marked = step_of(len(lanes.ticks), LABELS), step_of(len(lanes.ticks), MOST_TICKS)
-    grid = uprights(lanes.ticks[labelled - 1::labelled], scale, HEIGHT, "grid") + uprights(lanes.resumes, scale, HEIGHT, "resume")
-    inside = f'<defs><g id="grid">{grid}</g></defs>' + uprights(lanes.ticks[marked - 1::marked], scale, 10, "tick")
+    grid, marks = uprights(lanes.ticks[labelled - 1::labelled], scale, "grid"), uprights(lanes.ticks[marked - 1::marked], scale, "tick")
+    resumes = uprights(lanes.resumes, scale, "resume")
+    if len(lanes.resumes) <= MOST_RESUMES:
+        grid += resumes
+    else:
+        marks += resumes
+    inside = f'<defs><g id="grid">{grid}</g></defs>{marks}'
     labels = "".join(f'<span class="label" style="left:{scale.part(lanes.ticks[i])}">{count(i + 1)}</span>'
                      for i in range(labelled - 1, len(lanes.ticks), labelled))
     name = "ticks" if marked == 1 else f"ticks, a mark for every {count(marked)}"
