@@ -30,6 +30,9 @@ KNOWN = [
     ("Windows line ends", GOOD.replace(b"\n", b"\r\n"), 1, 1, 12, "Windows line ends"),
     ("a byte order mark", b"\xef\xbb\xbf" + GOOD, 1, 1, 1, "byte order mark"),
     ("UTF-16", GOOD.decode().encode("utf-16"), 1, 1, 1, "UTF-16"),
+    ("UTF-16 without a mark", GOOD.decode().encode("utf-16-le"), 2, 1, 1, "UTF-16"),
+    ("UTF-16, high byte first", GOOD.decode().encode("utf-16-be"), 2, 1, 1, "UTF-16"),
+    ("bytes of 0", bytes(96), 2, 1, 1, "the byte 00"),
     ("old line ends", GOOD.replace(b"\n", b"\r"), 2, 1, 12, "carriage return alone"),
     ("no last line feed", GOOD[:-1], 1, 8, 12, "line feed"),
     ("a space at the end of a line", GOOD.replace(b"000020\n", b"000020 \n"), 1, 6, 12, "space or tab at the end"),
@@ -39,6 +42,8 @@ KNOWN = [
     ("a share without its zeros", GOOD.replace(b"000040", b"40"), 1, 5, 8, "six are wanted, as in S 00 000040"),
     ("a partition's number without its zero", GOOD.replace(b"S 01 ", b"S 1 "), 1, 6, 3, "two digits"),
     ("a percent sign", GOOD.replace(b"000040", b"00040%"), 2, 5, 11, "percent sign"),
+    ("a share of 5000 digits", GOOD.replace(b"000040", b"4" * 5000), 1, 5, 12, "5000 digits"),
+    ("a minus", GOOD.replace(b"000040", b"-00040"), 2, 5, 6, "a digit is wanted"),
     ("the letter O", GOOD.replace(b"000040", b"00004O"), 2, 5, 11, "letter O"),
     ("a small letter", GOOD.replace(b"W", b"w"), 2, 1, 1, "capital W"),
     ("a tab", GOOD.replace(b"C 00 ", b"C\t00 "), 2, 2, 2, "a tab"),
@@ -151,22 +156,28 @@ def main():
         expect(b"warning: partition 1 has a share of 0" in tool("check", path).stdout, "a share of 0 is not warned of")
         (Path(folder) / "names.txt").write_text("1 the radio\n")
         expect(b"warning: the radio has a share of 0" in tool("check", path).stdout, "a name is not used")
+        (Path(folder) / "names.txt").write_text("x\n")
+        done = tool("check", path)
+        expect(done.returncode == 0 and b"warning: names.txt, line 1: a partition's number" in done.stdout, f"a bad name makes a sheet wrong: {done}")
 
     # there and back; what is no sheet is not written
     for _ in range(100):
         data = some_good(draw)
-        expect(sheets.write(sheets.read_plain(sheets.plain(sheets.read(data)))) == data, f"{data!r} came back otherwise")
+        expect(sheets.write(sheets.read_plain(sheets.plain(sheets.read(data)).encode())) == data, f"{data!r} came back otherwise")
     plain = b"window 100 # ticks\nshare 1 20\nshare 0 40\nshare 2 10\n\nshare 3 30\ntick 1000\n"
-    expect(tool("encode", data=plain).stdout == GOOD, "plain lines are not the sheet that they say")
+    for text in (plain, plain.replace(b"\n", b"\r\n"), b"\xef\xbb\xbf" + plain, plain.decode().encode("utf-16")):
+        expect(tool("encode", data=text).stdout == GOOD, f"{text!r} is not the sheet that it says")
     expect(tool("decode", data=GOOD).stdout == b"window 100\ntick 1000\npolicy 0\ncore 0\nshare 0 40\nshare 1 20\nshare 2 10\nshare 3 30\n",
            "the good sheet is not decoded as it is")
     for text, reason in [(b"window 100\ntick 1000\nshare 0 0,5", b"line 3: share 0 is a whole number, and not '0,5'"),
                          (b"tick 1000\nshare 0 100", b"window"), (b"window 100\ntick 1000\nshare 1 100", b"share 0"),
                          (b"window 4\nwindow 5", b"line 2: window is there twice"), (b"window 100\ntick 1000\nshare 0 99", b"refused with 6"),
                          (b"window 100\ntick 1000", b"refused with 1"), (b"window 1000000", b"six digits"), (b"share 16 5", b"0 to 15"),
-                         (b"weight 3", b"write it as")]:
+                         (b"weight 3", b"write it as"), (b"window " + b"9" * 5000, b"six digits"), (b"share 0 -5", b"whole number"),
+                         (bytes(range(256)), b"write it as")]:
         done = tool("encode", data=text)
-        expect(done.returncode == 1 and not done.stdout and reason in done.stderr, f"{text!r}: {done.stderr!r} does not say {reason!r}")
+        expect(done.returncode == 1 and not done.stdout and reason in done.stderr and b"Traceback" not in done.stderr,
+               f"{text!r}: {done.stderr!r} does not say {reason!r}")
     expect(tool("decode", data=GOOD[:-1]).returncode == 1, "a cut sheet is decoded")
     expect([tool().returncode, tool("check").returncode, tool("check", "/nowhere/at/all").returncode, tool("--help").returncode] == [2, 2, 2, 0],
            "bad usage has another status than 2, or help another than 0")

@@ -5,7 +5,7 @@ The number is only foretold here. The proved program says it, and the tools that
 from typing import NamedTuple
 
 from lib import sheets
-from lib.programs import Disagreement
+from lib.errors import Disagreement
 from lib.sheets import HEAD, PARTITIONS, RECORD
 
 ORDER = "W, C, P, M, then S 00, S 01 and so on"
@@ -60,7 +60,7 @@ def form_faults(data):
     lines, each of them the twelve bytes that are wanted in its place."""
     if not data:
         return [Fault(1, 1, "the file is empty, or there is none")]
-    if data[:2] in (b"\xff\xfe", b"\xfe\xff") or data[1:4:2] == b"\0\0":
+    if data[:2] in (b"\xff\xfe", b"\xfe\xff") or (data[0:4:2] == b"\0\0") != (data[1:4:2] == b"\0\0"):
         return [Fault(1, 1, "the file is saved as UTF-16, two bytes for each letter: save it as plain text (ASCII or UTF-8)")]
     if b"\n" not in data and b"\r" in data:
         return [Fault(1, data.index(b"\r") + 1, "the lines end with a carriage return alone: save the file with Unix line ends (LF)")]
@@ -142,7 +142,8 @@ def value_fault(value, start, name):
             return column, f"the letter {chr(byte)} stands where a digit is wanted"
         return column, f"a digit is wanted here, and not {here}"
     if len(value) != 6:
-        example = f", as in {start.decode()}{int(value):06d}" if value and int(value) <= sheets.LARGEST else ""
+        digits = value.lstrip(b"0")
+        example = f", as in {start.decode()}{digits.decode():0>6}" if value and len(digits) <= 6 else ""
         return len(start) + min(len(value), 6) + 1, f"the number has {len(value)} digits, and six are wanted{example}"
     return None
 
