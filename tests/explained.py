@@ -25,7 +25,8 @@ def written(window=100, tick=1000, policy=0, core=0, shares=(40, 20, 10, 30)):
 
 
 GOOD = written()
-# what a person's hand or editor does to a sheet: the number by document 01, the place, and a word of the cause
+# what a person's hand or editor does to a sheet: the number by document 01, the place, and a word of the cause. There is one sentence for each,
+# but for those in `MORE`.
 KNOWN = [
     ("Windows line ends", GOOD.replace(b"\n", b"\r\n"), 1, 1, 12, "Windows line ends"),
     ("a byte order mark", b"\xef\xbb\xbf" + GOOD, 1, 1, 1, "byte order mark"),
@@ -51,6 +52,11 @@ KNOWN = [
     ("an empty line in between", GOOD.replace(b"C 00", b"\nC 00"), 1, 2, 1, "empty"),
     ("an empty line at the end", GOOD + b"\n", 1, 9, 1, "empty"),
     ("no M line", GOOD[:36] + GOOD[48:], 2, 4, 1, "the M line is wanted"),
+    ("no S 01 line", GOOD[:60] + GOOD[72:], 2, 6, 4, "begins with 'S 01 '"),
+    ("the C line twice", GOOD[:24] + GOOD[12:], 2, 3, 1, "the P line is wanted"),
+    ("W and C exchanged", GOOD[12:24] + GOOD[:12] + GOOD[24:], 2, 1, 1, "the W line is wanted"),
+    ("a comment after 20 records", written(shares=(85,) + (1,) * 15) + b"# the end\n", 1, 21, 1, "no comments"),
+    ("an empty line after 20 records", written(shares=(85,) + (1,) * 15) + b"\n", 1, 21, 1, "empty"),
     ("S 02 twice", GOOD.replace(b"S 03", b"S 02"), 2, 8, 4, "begins with 'S 03 '"),
     ("an empty file", b"", 1, 1, 1, "empty"),
     ("four records", GOOD[:48], 1, 4, 1, "4 of at least 5"),
@@ -63,6 +69,7 @@ KNOWN = [
     ("a sum of 101", written(shares=(40, 20, 10, 31)), 6, 5, 6, "add up to 101"),
     ("a share of 101", written(shares=(0, 101)), 6, 6, 6, "101"),
 ]
+MORE = {"bytes of 0": 3, "W and C exchanged": 2, "a share of 101": 2}
 # document 01's example (W 100, C 1000, four partitions, share 10), and the sheet of ten ticks on which two jobs are promised nothing
 BOUNDS = [(written(), (37750, 17750, 7750, 27750)), (written(window=10), (1750, -250, -1250, 750))]
 
@@ -142,6 +149,7 @@ def main():
             said = done.stdout.decode()
             expect(done.returncode == 1 and said.startswith(f"refused with {number}\n") and f"line {line}, column {column}" in said
                    and cause in said, f"{name}: status {done.returncode}, {said!r}")
+            expect(len(said.splitlines()) == 1 + MORE.get(name, 1), f"{name} is said in {said!r}")
         for data, bounds in BOUNDS:
             path.write_bytes(data)
             done = tool("check", path)

@@ -10,6 +10,7 @@ from lib.sheets import HEAD, PARTITIONS, RECORD
 
 ORDER = "W, C, P, M, then S 00, S 01 and so on"
 FEWEST, MOST = len(HEAD) + 1, len(HEAD) + PARTITIONS
+MARK = b"\xef\xbb\xbf"
 
 
 class Fault(NamedTuple):
@@ -68,15 +69,35 @@ def form_faults(data):
     ended = lines[-1] == b""
     if ended:
         lines.pop()
-    faults = [fault for place, line in enumerate(lines[:MOST], 1) for fault in line_faults(place, line)]
+    faults, place = [], 1
+    for number, line in enumerate(lines[:MOST + 1], 1):
+        if place <= MOST or not is_record(line):
+            faults += [Fault(number, column, cause) for column, cause in line_faults(number, place, line)]
+        place = place_after(place, line)
     if not ended:
         faults.append(Fault(len(lines), len(lines[-1]) + 1, "the line feed at the end of the last line is missing: press Enter there, and save"))
-    if len(lines) < FEWEST:
-        faults.append(Fault(len(lines), 1, f"the sheet ends here, after {len(lines)} of at least {FEWEST} lines: {ORDER}"))
-    if len(lines) > MOST:
-        faults.append(Fault(MOST + 1, 1, f"the sheet has {len(lines)} lines, and at most {MOST} are possible: "
+    count = sum(map(is_record, lines))
+    if count < FEWEST:
+        faults.append(Fault(len(lines), 1, f"the sheet ends here, after {count} of at least {FEWEST} lines: {ORDER}"))
+    if count > MOST:
+        faults.append(Fault(MOST + 1, 1, f"the sheet has {count} lines, and at most {MOST} are possible: "
                                          f"{len(HEAD)}, and a share for each of 1 to {PARTITIONS} partitions"))
     return faults
+
+
+def is_record(line):
+    """Whether a line is meant as a record: it is not empty, and no comment."""
+    return bool(line.strip()) and not line.startswith(b"#")
+
+
+def place_after(place, line):
+    """Which place in the order the next line has, so that one line too many or too few is one fault. A line that is no record, or is for an earlier
+    place, takes none; one for a later place leaves out those between."""
+    if not is_record(line):
+        return place
+    text = line[len(MARK):] if line.startswith(MARK) else line
+    found = next((at for at in range(1, MOST + 1) if text.startswith(wanted(at)[0])), place)
+    return max(found + 1, place)
 
 
 def wanted(place):
@@ -87,29 +108,30 @@ def wanted(place):
     return f"S {place - len(HEAD) - 1:02d} ".encode(), "share"
 
 
-def line_faults(place, line):
-    """What is wrong with a line, which stands here without its line feed: what an editor leaves at its ends, then the first wrong byte between."""
+def line_faults(number, place, line):
+    """What is wrong with a line, which stands here without its line feed, in the place that it has in the order: what an editor leaves at its ends,
+    then the first wrong byte between. Each fault is a column and a cause."""
     start, name = wanted(place)
     skipped = 0
-    if place == 1 and line.startswith(b"\xef\xbb\xbf"):
-        yield Fault(1, 1, "the file begins with a byte order mark, three bytes that no editor shows: save it as UTF-8 without one, or as ASCII")
-        skipped = 3
+    if number == 1 and line.startswith(MARK):
+        yield 1, "the file begins with a byte order mark, three bytes that no editor shows: save it as UTF-8 without one, or as ASCII"
+        skipped = len(MARK)
     text = line[skipped:]
     if text.endswith(b"\r"):
-        yield Fault(place, len(line), "a carriage return before the line feed: the file has Windows line ends; save it with Unix line ends (LF)")
+        yield len(line), "a carriage return before the line feed: the file has Windows line ends; save it with Unix line ends (LF)"
         text = text[:-1]
     if text != text.rstrip(b" \t\r") and text.strip():
         text = text.rstrip(b" \t\r")
-        yield Fault(place, skipped + len(text) + 1, "there is a space or tab at the end of the line: take it out")
-    if misfit := start_fault(place, text, start) or value_fault(text[len(start):], start, name):
+        yield skipped + len(text) + 1, "there is a space or tab at the end of the line: take it out"
+    if misfit := start_fault(text, start) or value_fault(text[len(start):], start, name):
         column, cause = misfit
-        yield Fault(place, skipped + column, cause)
+        yield skipped + column, cause
 
 
-def start_fault(place, text, start):
+def start_fault(text, start):
     """The first wrong byte of the letter, the two digits and their spaces: its column and the cause."""
     if not text.strip():
-        return 1, f"the line is empty, and the {start[:1].decode()} line is wanted here"
+        return 1, "the line is empty: take it out"
     if text.startswith(b"#"):
         return 1, "a sheet has no comments: take the line out"
     for at, byte in enumerate(start):
