@@ -79,8 +79,11 @@ def built(folder):
     (folder / "crates/a/new").touch()
     expect("4 of 4" in build().stdout, "what was changed is not built again")
     expect(build().stdout == "", "what was found as it was is built again, because its programs are older than a file")
-    (folder / "target/built").unlink()
-    expect("4 of 4" in build().stdout, "programs that are older than a file are not built again")
+    for program in ("desk", "checksheet"):
+        (folder / "target/built").unlink()
+        (folder / "target/bin" / program).touch()
+        expect("4 of 4" in build().stdout, f"only {program} is younger than every file, and nothing is built")
+        os.utime(folder / "target/bin" / program, (1, 1))
     (folder / "crates/a/new").touch()
     (folder / "broken").touch()
     for _ in range(2):
