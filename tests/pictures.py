@@ -108,6 +108,8 @@ def overdrawn(folder):
     used = rows_of(page, "<hög> & \"co\"", "used")[0]["name"]
     expect("at most 2,000" in used and "overdrawn by 1,000" in used, f"an overdrawn job is told as {used!r}")
     expect("overdrawn" not in rows_of(page, "partition 1", "used")[0]["name"], "a job that never ran is overdrawn")
+    # up to 1000 it has budget; then 1000 of the tick before and more, up to the end of the day
+    expect(re.findall(r'<path class="beyond" d="M(\d+) 53[67]h(\d+)"', text) == [("4000", "12000")], "the time beyond the budget is drawn elsewhere")
     lanes = rows_of(page, "<hög> & \"co\"", "thread")
     expect(lanes[0]["strokes"] == {"running": [(0, 10000)], "blocked": [(10000, 16000)]}, f"thread 0 is drawn as {lanes[0]['strokes']}")
     expect(lanes[1]["strokes"] == {"blocked": [(0, 12000)], "elsewhere": [(12000, 16000)]}, f"thread 3 is drawn as {lanes[1]['strokes']}")
@@ -184,7 +186,8 @@ def main():
         slept(folder / "slept")
         large(folder / "large")
         shutil.copytree(ROOT / "examples/workshop", folder / "workshop")
-        page, _, _ = drawn(folder / "workshop")
+        page, text, _ = drawn(folder / "workshop")
+        expect(text.count('class="beyond"') == text.count("overdrawn by") == 2, "another number of jobs is overdrawn in the example")
         expect([row["name"] for row in rows_of(page, "screen", "thread")] == ["thread 3", "thread 4"], "the screen's threads have other lanes")
     print(f"pictures: pages of 13 days, one of them of 100,000 events, {expect.wrong} things wrong")
     sys.exit(expect.wrong != 0)

@@ -16,6 +16,8 @@ LITTLE = "little"
 # later ones are drawn over earlier ones
 DRAWN = (BLOCKED, ELSEWHERE, READY, LITTLE, RUNNING)
 HEIGHT = 1000
+# what is beyond the budget is never drawn narrower than this
+SEEN = 4 * PIXEL
 LABELS = 10
 MOST_TICKS = 100
 # more resumes than this are drawn beside the ticks alone, and not through every lane
@@ -111,8 +113,24 @@ def kept(points):
     return [points[0], points[low], points[high], points[-1]]
 
 
+def beyond(line, budget, scale):
+    """Where the line is above the budget, as places; pieces less than a pixel apart are one."""
+    found = []
+    for (begin, before), (end, after) in zip(line, line[1:]):
+        if begin == end or after <= budget:
+            continue
+        if before < budget:  # it rises from below
+            begin += (budget - before) * (end - begin) / (after - before)
+        if found and scale.x(begin) - found[-1][1] < PIXEL:
+            found[-1][1] = scale.x(end)
+        else:
+            found.append([scale.x(begin), scale.x(end)])
+    return found
+
+
 def used_row(partition, lanes, sheet, scale):
-    """The line of what was used, filled, with what is beyond the budget in another colour."""
+    """The line of what was used, filled, with what is beyond the budget in another colour, and the budget's line in that colour meanwhile: what is
+    beyond it may be too little to be seen."""
     line = lanes.used[partition] + [(lanes.end, lanes.used[partition][-1][1])]
     budget, most = sheet.budget(partition), max(used for _, used in line)
     top = max(budget, most, 1) * 1.08
@@ -125,6 +143,8 @@ def used_row(partition, lanes, sheet, scale):
               f'<clipPath id="over{partition}"><rect width="{WIDTH}" height="{y(budget)}"/></clipPath></defs>'
               f'<use class="level" href="#used{partition}"/><use class="over" href="#used{partition}" clip-path="url(#over{partition})"/>'
               f'<path class="budget" d="M0 {y(budget)}h{WIDTH}"/>')
+    strokes = "".join(f"M{start} {y(budget)}h{max(end - start, SEEN)}" for start, end in beyond(line, budget, scale))
+    inside += f'<path class="beyond" d="{strokes}"/>' if strokes else ""
     over = f'<br><span class="overdrawn">overdrawn by {count(most - budget)}</span>' if most > budget else ""
     return row("used", f"used, at most {count(most)}<br>budget {count(budget)} (dashed){over}", drawing(inside, HEIGHT))
 
@@ -175,7 +195,8 @@ def marks_row(lanes, scale, day):
             groups.append([(time, step)])
     marks = []
     for group in groups:
-        label = str(group[0][1].line.refusal) if len(group) == 1 else f"{count(len(group))}&times;"
+        many = str(len(group)) if len(group) < 1000 else f"{len(group) // 1000}k"  # short, because the next mark is near
+        label = str(group[0][1].line.refusal) if len(group) == 1 else f"{many}&times;"
         words = "\n".join(refusal_words(step, day) for _, step in group[:8]) + (f"\nand {count(len(group) - 8)} more" if len(group) > 8 else "")
         marks.append(f'<a class="mark" href="#refused" style="left:{scale.part(group[0][0])}" title="{escape(words)}">{label}</a>')
     return row("marks", "refused events", "".join(marks)) if marks else ""
