@@ -115,6 +115,10 @@ def overdrawn(folder):
     expect(lanes[1]["strokes"] == {"blocked": [(0, 12000)], "elsewhere": [(12000, 16000)]}, f"thread 3 is drawn as {lanes[1]['strokes']}")
     # the budget is at 1000 of the drawing's 2160, and what is above it has the other colour
     expect(re.search(r'<clipPath id="over0"><rect width="16000" height="(53[67])"', text) is not None, "the budget is drawn elsewhere")
+    # of a budget of 1500 the last cycle is used in the middle of the second of two ticks
+    text = "0 create 0 partition 0 priority 1 mask 1\n0 ready 0\n1000 ticks 2 every 1000\n"
+    _, text, _ = drawn(fill(folder / "rising", sheet_of(2, 1000, (75, 25)), text))
+    expect(re.findall(r'<path class="beyond" d="M(\d+) \d+h(\d+)"', text) == [("12000", "4000")], "the budget is used up at another time")
 
 
 def measured(folder, seed):
@@ -189,7 +193,7 @@ def main():
         page, text, _ = drawn(folder / "workshop")
         expect(text.count('class="beyond"') == text.count("overdrawn by") == 2, "another number of jobs is overdrawn in the example")
         expect([row["name"] for row in rows_of(page, "screen", "thread")] == ["thread 3", "thread 4"], "the screen's threads have other lanes")
-    print(f"pictures: pages of 13 days, one of them of 100,000 events, {expect.wrong} things wrong")
+    print(f"pictures: pages of 14 days, one of them of 100,000 events, {expect.wrong} things wrong")
     sys.exit(expect.wrong != 0)
 
 

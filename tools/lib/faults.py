@@ -59,12 +59,8 @@ def explain(data, number):
 def form_faults(data):
     """What keeps a file from being whole records in their order. There is a fault exactly if it gets number 1 or 2: a file without one is 5 to 20
     lines, each of them the twelve bytes that are wanted in its place."""
-    if not data:
-        return [Fault(1, 1, "the file is empty, or there is none")]
-    if data[:2] in (b"\xff\xfe", b"\xfe\xff") or (data[0:4:2] == b"\0\0") != (data[1:4:2] == b"\0\0"):
-        return [Fault(1, 1, "the file is saved as UTF-16, two bytes for each letter: save it as plain text (ASCII or UTF-8)")]
-    if b"\n" not in data and b"\r" in data:
-        return [Fault(1, data.index(b"\r") + 1, "the lines end with a carriage return alone: save the file with Unix line ends (LF)")]
+    if fault := file_fault(data):
+        return [fault]
     lines = data.split(b"\n")
     ended = lines[-1] == b""
     if ended:
@@ -76,13 +72,28 @@ def form_faults(data):
         place = place_after(place, line)
     if not ended:
         faults.append(Fault(len(lines), len(lines[-1]) + 1, "the line feed at the end of the last line is missing: press Enter there, and save"))
+    return faults + count_faults(lines)
+
+
+def file_fault(data):
+    """What is wrong with the file as a whole, so that its lines need not be looked at."""
+    if not data:
+        return Fault(1, 1, "the file is empty, or there is none")
+    if data[:2] in (b"\xff\xfe", b"\xfe\xff") or (data[0:4:2] == b"\0\0") != (data[1:4:2] == b"\0\0"):
+        return Fault(1, 1, "the file is saved as UTF-16, two bytes for each letter: save it as plain text (ASCII or UTF-8)")
+    if b"\n" not in data and b"\r" in data:
+        return Fault(1, data.index(b"\r") + 1, "the lines end with a carriage return alone: save the file with Unix line ends (LF)")
+    return None
+
+
+def count_faults(lines):
     count = sum(map(is_record, lines))
     if count < FEWEST:
-        faults.append(Fault(len(lines), 1, f"the sheet ends here, after {count} of at least {FEWEST} lines: {ORDER}"))
+        return [Fault(len(lines), 1, f"the sheet ends here, after {count} of at least {FEWEST} lines: {ORDER}")]
     if count > MOST:
-        faults.append(Fault(MOST + 1, 1, f"the sheet has {count} lines, and at most {MOST} are possible: "
-                                         f"{len(HEAD)}, and a share for each of 1 to {PARTITIONS} partitions"))
-    return faults
+        return [Fault(MOST + 1, 1, f"the sheet has {count} lines, and at most {MOST} are possible: "
+                                   f"{len(HEAD)}, and a share for each of 1 to {PARTITIONS} partitions")]
+    return []
 
 
 def is_record(line):
