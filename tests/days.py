@@ -1,8 +1,9 @@
 #!/usr/bin/env python3
 """tools/day: its numbers are those of document 01's words, on the paper's run, on runs of another scheduler and on days made here; each event stands
-beside the desk's own line; refusals name their line; what starved is named, and what is not promised; and where the program says something
-else than the rules, the tool says so.
+beside the desk's own line; refusals name their line; what starved is named, and what is not promised; whatever is in the folder is told in a
+sentence; the README shows what the tool prints; and where the program says something else than the rules, the tool says so.
 """
+import random
 import re
 import shutil
 import subprocess
@@ -106,9 +107,13 @@ def example():
     expect(all(line in done.stdout for line in text if line.startswith("#")), "a comment of the example is not shown")
     refusals = re.findall(r"(\d+ \w+(?: \d+)?) +REFUSED \(\d+\), line (\d+) of day.txt", done.stdout)
     expect(len(refusals) == 3 and all(text[int(place) - 1].split() == event.split() for event, place in refusals), f"refusals: {refusals}")
-    refused = show(ROOT / "examples/refused")
+    part = (ROOT / "README.md").read_text().split("## What you see")[1].split("\n## ")[0]
+    shown = [line[4:] for line in part.splitlines() if line.startswith("    ") and line.strip() != ".."]
+    expect(len(shown) > 8 and all(line in done.stdout.splitlines() for line in shown), "the README shows another day than the example")
+    refused = show(ROOT / "examples/refused", "--picture", "/nowhere/page.html")
     expect(refused.returncode == 1, "the second example is not refused")
-    has(refused, "shares.txt is refused with 1", "line 7, column 7: a comma in a share: half percents do not exist")
+    has(refused, "shares.txt is refused with 1", "line 7, column 7: a comma in a share: half percents do not exist",
+        "Nothing is written to /nowhere/page.html")
 
 
 def statuses(folder):
@@ -119,6 +124,13 @@ def statuses(folder):
     has(show(data), "REFUSED (14), record 2 of day.bin: the record is cut: 2 of 12 bytes")
     clock = fill(folder / "clock", WORKED_SHEET, "700 tick\n200 tick\n1500000700 tick\n")
     has(show(clock), "line 2 of day.txt: the clock goes back by 500\n", "line 3 of day.txt: it would be 1,500,000,000 cycles since the last tick")
+    terminal = show(fill(folder / "terminal", WORKED_SHEET, "# \x1b[31m\n0 tick\n", names="0 \x1b[31m\n"))
+    expect(terminal.returncode == 0 and "\x1b" not in terminal.stdout, "the terminal is told to do something")
+    for name, text in [("Windows", WORKED_TEXT.replace("\n", "\r\n")), ("mark", "\ufeff" + WORKED_TEXT), ("UTF-16", WORKED_TEXT.encode("utf-16"))]:
+        here, usual = show(fill(folder / name, WORKED_SHEET, text)), show(fill(folder / "usual", WORKED_SHEET, WORKED_TEXT))
+        expect((here.returncode, here.stdout) == (1, usual.stdout), f"a day.txt as {name} has it: status {here.returncode}, {here.stderr}")
+    nothing = show(fill(folder / "nothing", WORKED_SHEET, ""))
+    expect(nothing.returncode == 0 and "0 events, 0 of them refused; 0 ticks; 0 cycles" in nothing.stdout, f"an empty day: {nothing}")
     both = fill(folder / "both", WORKED_SHEET, "0 tick\n", data=bytes([1] + [0] * 11))
     expect(show(both).returncode == 0, "a day.bin made from day.txt is in the way")
     fill(both, data=bytes([1] + [0] * 10 + [1]))
@@ -126,14 +138,44 @@ def statuses(folder):
         (2, show(folder / "nowhere"), "is no folder"), (2, show(fill(folder / "empty")), "neither day.txt nor day.bin"),
         (2, show(both), "which one is the day"), (2, show(good, "--at", "2"), "1 to 1"), (2, show(good, "--at", "x"), "invalid int"),
         (2, show(good, "--fly"), "unrecognized"),
-        (2, show(good, "--picture", folder / "no/such/folder.html"), "No such file"),
+        (2, show(good, "--picture", folder / "no/such/folder.html"), "No such file"), (2, show(good, "--picture", folder), "Is a directory"),
+        (2, show(good, "--trace", "/dev/full"), "day: /dev/full: No space left on device"),
+        (2, show(good, "--at", "1", "--picture", folder / "page.html"), "--at shows one decision"),
         (1, show(fill(folder / "typo", WORKED_SHEET, "0 tick\n5 fly\n")), "day.txt, line 2: 'fly' is no event"),
         (1, show(fill(folder / "names", WORKED_SHEET, "0 tick\n", names="0 a\n2 c\n")), "names.txt, line 2"),
-        (1, show(fill(folder / "twice", WORKED_SHEET, "0 tick\n", names="\n0 a\n0 b\n")), "names.txt, line 3"),
+        (1, show(fill(folder / "twice", WORKED_SHEET, "0 tick\n", names="\n0 a\n0 b\n")), "names.txt, line 3: partition 0 has a name already"),
+        (1, show(fill(folder / "same", WORKED_SHEET, "0 tick\n", names="0 a\n1 a\n")), "names.txt, line 2: another job is called 'a' already"),
+        (1, show(fill(folder / "long", WORKED_SHEET, "0 tick\n", names="0 " + 41 * "a")), "names.txt, line 1: a name has at most 40 characters"),
+        (1, show(fill(folder / "many", WORKED_SHEET, "0 tick\n", names=5000 * "9" + " a")), "names.txt, line 1: the sheet has partitions 0 to 1"),
+        (1, show(fill(folder / "less", WORKED_SHEET, "-1 tick\n")), "day.txt, line 1: stamp is a whole number, and not '-1'"),
+        (1, show(fill(folder / "huge", WORKED_SHEET, 5000 * "9" + " tick\n")), "day.txt, line 1: stamp is at most 4294967295"),
     ]:
         expect(done.returncode == status and said in done.stderr, f"{done.args[1:]}: status {done.returncode}, {done.stderr!r}")
+    with subprocess.Popen([ROOT / "tools/day", ROOT / "examples/workshop"], stdout=subprocess.PIPE, stderr=subprocess.PIPE) as process:
+        process.stdout.close()
+        said = process.stderr.read()
+    expect(process.returncode == 1 and not said, f"nobody reads: status {process.returncode}, {said}")
     expect(show(fill(folder / "bare", text="0 tick\n")).returncode == 1, "a day without a sheet is not refused")
     expect(show("--help").returncode == 0, "help has another status than 0")
+
+
+def damaged(folder, seed):
+    """Whatever is in the files of a day, the tool ends with a status that it tells of, and with a sentence if it shows no day."""
+    draw = random.Random(seed)
+    files = {"shares.txt": WORKED_SHEET, "day.txt": WORKED_TEXT.encode(), "names.txt": b"0 a\n1 b\n"}
+    if seed % 2:
+        files["day.bin"] = records.encode(files.pop("day.txt"))
+    broken = draw.choice(sorted(files))
+    data = bytearray(files[broken])
+    for _ in range(draw.choice((1, 3, 30))):
+        data[draw.randrange(len(data))] = draw.randrange(256)
+    files[broken] = bytes(data[:draw.choice((len(data), draw.randrange(len(data))))])
+    folder.mkdir(parents=True)
+    for name, content in files.items():
+        (folder / name).write_bytes(content)
+    done = show(folder, "--picture", folder / "page.html", "--trace", folder / "trace.json")
+    sentence = done.stderr.startswith("day: ") and done.stderr.count("\n") == 1
+    expect(done.returncode in (0, 1) and (sentence if done.stderr else done.stdout), f"{broken} as {bytes(data)!r}: {done.returncode}, {done.stderr}")
 
 
 def decisions(run):
@@ -195,6 +237,8 @@ def main():
         starving(folder / "starving")
         example()
         statuses(folder / "statuses")
+        for seed in range(40):
+            damaged(folder / f"damaged{seed}", seed)
         disagreeing(folder / "disagreeing")
         expect(told > 500, f"only {told} decisions were explained")
     print(f"days: {days} days and {stretches} stretches counted as document 01 says, {told} decisions explained, {expect.wrong} things wrong")

@@ -1,6 +1,6 @@
 #!/usr/bin/env python3
 """tools/events: a line of each kind is document 01's record, and the record that line; any stream of records comes back from its text byte
-for byte; and a line that makes no sense is refused with its number."""
+for byte; a text file may come from any editor; a line that makes no sense is refused with its number, and a call with status 2."""
 import random
 import subprocess
 import sys
@@ -39,12 +39,37 @@ BAD = [
     ("raw zz", "line 1: raw takes bytes in hexadecimal"),
     ("raw 00000000000000000000000000", "line 1: raw takes 1 to 12 bytes"),
     ("raw 01\n5 tick", "line 2: only the last record may be cut"),
+    ("9" * 5000 + " tick", "line 1: stamp is at most 4294967295"),
+    ("# a form feed \x0c and U+2028 \u2028 end no line\n5 fly", "line 2: 'fly' is no event"),
 ]
 
 
-def tool(word, data):
+# the same two ticks as different editors save them
+EDITORS = [b"0 tick\n1 tick\n", b"0 tick\r\n1 tick\r\n", b"0 tick\r1 tick", b"\xef\xbb\xbf0 tick\n1 tick", "0 tick\n1 tick\n".encode("utf-16"),
+           b"\t0\ttick # \xff\n0001 tick"]
+
+
+def tool(*words, data=b""):
     """The tool as a program."""
-    return subprocess.run([TOOL, word], input=data, stdout=subprocess.PIPE, stderr=subprocess.PIPE, timeout=20)
+    return subprocess.run([TOOL, *words], input=data, stdout=subprocess.PIPE, stderr=subprocess.PIPE, timeout=20)
+
+
+def statuses():
+    """What is wrong with the statuses that the tool ends with, and with what it says then."""
+    for words, status, stream, said in [((), 2, "stderr", b"encode or decode"), (("encode", "x"), 2, "stderr", b"encode or decode"),
+                                        (("--help",), 0, "stdout", b"text to records")]:
+        done = tool(*words)
+        if done.returncode != status or said not in getattr(done, stream) or b"Traceback" in done.stderr:
+            yield f"{words}: status {done.returncode}, {done.stderr!r}"
+    with open("/dev/full", "wb") as full:
+        done = subprocess.run([TOOL, "encode"], input=b"0 tick\n", stdout=full, stderr=subprocess.PIPE)
+    if done.returncode != 2 or done.stderr != b"events: standard output: No space left on device\n":
+        yield f"a full disk: status {done.returncode}, {done.stderr!r}"
+    with subprocess.Popen([TOOL, "encode"], stdin=subprocess.PIPE, stdout=subprocess.PIPE, stderr=subprocess.PIPE) as process:
+        process.stdout.close()
+        _, said = process.communicate(b"0 ticks 100000 every 1\n")
+    if process.returncode != 0 or said:
+        yield f"nobody reads: status {process.returncode}, {said!r}"
 
 
 def main():
@@ -53,26 +78,33 @@ def main():
     streams = [p.read_bytes() for p in sorted(ROOT.glob("tests/vectors/*/events.bin"))]
     streams += [bytes(draw.choice((0, 0, 1, 2, 3, 4, 5, 6, 7, 8, 255)) for _ in range(draw.randrange(90))) for _ in range(60)]
     for stream in streams:
-        if records.encode(records.decode(stream)) != stream:
+        if records.encode(records.decode(stream).encode()) != stream:
             wrong += 1
             print(f"events: {stream.hex()} came back otherwise")
     for stream in streams[:3] + streams[-3:]:
-        if tool("encode", tool("decode", stream).stdout).stdout != stream:
+        if tool("encode", data=tool("decode", data=stream).stdout).stdout != stream:
             wrong += 1
             print(f"events: {stream.hex()} came back otherwise from the program")
     for text, record in KNOWN:
         data = bytes.fromhex(record)
-        if records.encode(text) != data or records.decode(data).split() != text.split():
+        if records.encode(text.encode()) != data or records.decode(data).split() != text.split():
             wrong += 1
             print(f"events: {text!r} and {data.hex()} are not each other's")
-    if records.encode(MANY[0]) != bytes.fromhex(MANY[1]):
+    if records.encode(MANY[0].encode()) != bytes.fromhex(MANY[1]):
         wrong += 1
         print(f"events: {MANY[0]!r} is not {MANY[1]!r}")
-    for text, reason in BAD:
-        done = tool("encode", text.encode())
-        if done.returncode == 0 or done.stdout or reason not in done.stderr.decode():
+    for text in EDITORS:
+        if records.encode(text) != bytes.fromhex("01000000 00000000 00000000" "01000000 01000000 00000000"):
             wrong += 1
-            print(f"events: {text!r}: {done.stderr.decode()!r} does not say {reason!r}")
+            print(f"events: {text!r} is not two ticks")
+    for text, reason in BAD:
+        done = tool("encode", data=text.encode())
+        if done.returncode != 1 or done.stdout or not done.stderr.decode().startswith("events: " + reason):
+            wrong += 1
+            print(f"events: {text!r}: status {done.returncode}, {done.stderr.decode()!r} does not say {reason!r}")
+    for said in statuses():
+        wrong += 1
+        print(f"events: {said}")
     print(f"events: {len(KNOWN) + 1} lines as the paper has them, {len(streams)} streams there and back, {len(BAD)} bad lines refused, {wrong} wrong")
     sys.exit(wrong != 0)
 

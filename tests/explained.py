@@ -25,11 +25,15 @@ def written(window=100, tick=1000, policy=0, core=0, shares=(40, 20, 10, 30)):
 
 
 GOOD = written()
-# what a person's hand or editor does to a sheet: the number by document 01, the place, and a word of the cause
+# what a person's hand or editor does to a sheet: the number by document 01, the place, and a word of the cause. There is one sentence for each,
+# but for those in `MORE`.
 KNOWN = [
     ("Windows line ends", GOOD.replace(b"\n", b"\r\n"), 1, 1, 12, "Windows line ends"),
     ("a byte order mark", b"\xef\xbb\xbf" + GOOD, 1, 1, 1, "byte order mark"),
     ("UTF-16", GOOD.decode().encode("utf-16"), 1, 1, 1, "UTF-16"),
+    ("UTF-16 without a mark", GOOD.decode().encode("utf-16-le"), 2, 1, 1, "UTF-16"),
+    ("UTF-16, high byte first", GOOD.decode().encode("utf-16-be"), 2, 1, 1, "UTF-16"),
+    ("bytes of 0", bytes(96), 2, 1, 1, "the byte 00"),
     ("old line ends", GOOD.replace(b"\n", b"\r"), 2, 1, 12, "carriage return alone"),
     ("no last line feed", GOOD[:-1], 1, 8, 12, "line feed"),
     ("a space at the end of a line", GOOD.replace(b"000020\n", b"000020 \n"), 1, 6, 12, "space or tab at the end"),
@@ -39,6 +43,8 @@ KNOWN = [
     ("a share without its zeros", GOOD.replace(b"000040", b"40"), 1, 5, 8, "six are wanted, as in S 00 000040"),
     ("a partition's number without its zero", GOOD.replace(b"S 01 ", b"S 1 "), 1, 6, 3, "two digits"),
     ("a percent sign", GOOD.replace(b"000040", b"00040%"), 2, 5, 11, "percent sign"),
+    ("a share of 5000 digits", GOOD.replace(b"000040", b"4" * 5000), 1, 5, 12, "5000 digits"),
+    ("a minus", GOOD.replace(b"000040", b"-00040"), 2, 5, 6, "a digit is wanted"),
     ("the letter O", GOOD.replace(b"000040", b"00004O"), 2, 5, 11, "letter O"),
     ("a small letter", GOOD.replace(b"W", b"w"), 2, 1, 1, "capital W"),
     ("a tab", GOOD.replace(b"C 00 ", b"C\t00 "), 2, 2, 2, "a tab"),
@@ -46,6 +52,11 @@ KNOWN = [
     ("an empty line in between", GOOD.replace(b"C 00", b"\nC 00"), 1, 2, 1, "empty"),
     ("an empty line at the end", GOOD + b"\n", 1, 9, 1, "empty"),
     ("no M line", GOOD[:36] + GOOD[48:], 2, 4, 1, "the M line is wanted"),
+    ("no S 01 line", GOOD[:60] + GOOD[72:], 2, 6, 4, "begins with 'S 01 '"),
+    ("the C line twice", GOOD[:24] + GOOD[12:], 2, 3, 1, "the P line is wanted"),
+    ("W and C exchanged", GOOD[12:24] + GOOD[:12] + GOOD[24:], 2, 1, 1, "the W line is wanted"),
+    ("a comment after 20 records", written(shares=(85,) + (1,) * 15) + b"# the end\n", 1, 21, 1, "no comments"),
+    ("an empty line after 20 records", written(shares=(85,) + (1,) * 15) + b"\n", 1, 21, 1, "empty"),
     ("S 02 twice", GOOD.replace(b"S 03", b"S 02"), 2, 8, 4, "begins with 'S 03 '"),
     ("an empty file", b"", 1, 1, 1, "empty"),
     ("four records", GOOD[:48], 1, 4, 1, "4 of at least 5"),
@@ -58,6 +69,7 @@ KNOWN = [
     ("a sum of 101", written(shares=(40, 20, 10, 31)), 6, 5, 6, "add up to 101"),
     ("a share of 101", written(shares=(0, 101)), 6, 6, 6, "101"),
 ]
+MORE = {"bytes of 0": 3, "W and C exchanged": 2, "a share of 101": 2}
 # document 01's example (W 100, C 1000, four partitions, share 10), and the sheet of ten ticks on which two jobs are promised nothing
 BOUNDS = [(written(), (37750, 17750, 7750, 27750)), (written(window=10), (1750, -250, -1250, 750))]
 
@@ -137,6 +149,7 @@ def main():
             said = done.stdout.decode()
             expect(done.returncode == 1 and said.startswith(f"refused with {number}\n") and f"line {line}, column {column}" in said
                    and cause in said, f"{name}: status {done.returncode}, {said!r}")
+            expect(len(said.splitlines()) == 1 + MORE.get(name, 1), f"{name} is said in {said!r}")
         for data, bounds in BOUNDS:
             path.write_bytes(data)
             done = tool("check", path)
@@ -151,22 +164,28 @@ def main():
         expect(b"warning: partition 1 has a share of 0" in tool("check", path).stdout, "a share of 0 is not warned of")
         (Path(folder) / "names.txt").write_text("1 the radio\n")
         expect(b"warning: the radio has a share of 0" in tool("check", path).stdout, "a name is not used")
+        (Path(folder) / "names.txt").write_text("x\n")
+        done = tool("check", path)
+        expect(done.returncode == 0 and b"warning: names.txt, line 1: a partition's number" in done.stdout, f"a bad name makes a sheet wrong: {done}")
 
     # there and back; what is no sheet is not written
     for _ in range(100):
         data = some_good(draw)
-        expect(sheets.write(sheets.read_plain(sheets.plain(sheets.read(data)))) == data, f"{data!r} came back otherwise")
+        expect(sheets.write(sheets.read_plain(sheets.plain(sheets.read(data)).encode())) == data, f"{data!r} came back otherwise")
     plain = b"window 100 # ticks\nshare 1 20\nshare 0 40\nshare 2 10\n\nshare 3 30\ntick 1000\n"
-    expect(tool("encode", data=plain).stdout == GOOD, "plain lines are not the sheet that they say")
+    for text in (plain, plain.replace(b"\n", b"\r\n"), b"\xef\xbb\xbf" + plain, plain.decode().encode("utf-16")):
+        expect(tool("encode", data=text).stdout == GOOD, f"{text!r} is not the sheet that it says")
     expect(tool("decode", data=GOOD).stdout == b"window 100\ntick 1000\npolicy 0\ncore 0\nshare 0 40\nshare 1 20\nshare 2 10\nshare 3 30\n",
            "the good sheet is not decoded as it is")
     for text, reason in [(b"window 100\ntick 1000\nshare 0 0,5", b"line 3: share 0 is a whole number, and not '0,5'"),
                          (b"tick 1000\nshare 0 100", b"window"), (b"window 100\ntick 1000\nshare 1 100", b"share 0"),
                          (b"window 4\nwindow 5", b"line 2: window is there twice"), (b"window 100\ntick 1000\nshare 0 99", b"refused with 6"),
                          (b"window 100\ntick 1000", b"refused with 1"), (b"window 1000000", b"six digits"), (b"share 16 5", b"0 to 15"),
-                         (b"weight 3", b"write it as")]:
+                         (b"weight 3", b"write it as"), (b"window " + b"9" * 5000, b"six digits"), (b"share 0 -5", b"whole number"),
+                         (bytes(range(256)), b"write it as")]:
         done = tool("encode", data=text)
-        expect(done.returncode == 1 and not done.stdout and reason in done.stderr, f"{text!r}: {done.stderr!r} does not say {reason!r}")
+        expect(done.returncode == 1 and not done.stdout and reason in done.stderr and b"Traceback" not in done.stderr,
+               f"{text!r}: {done.stderr!r} does not say {reason!r}")
     expect(tool("decode", data=GOOD[:-1]).returncode == 1, "a cut sheet is decoded")
     expect([tool().returncode, tool("check").returncode, tool("check", "/nowhere/at/all").returncode, tool("--help").returncode] == [2, 2, 2, 0],
            "bad usage has another status than 2, or help another than 0")

@@ -36,9 +36,9 @@ def fill(folder, sheet=None, text=None, data=None, names=None):
     """Writes a day's files into a folder, and answers it."""
     folder = Path(folder)
     folder.mkdir(parents=True, exist_ok=True)
-    for name, content in (("shares.txt", sheet), ("day.txt", text and text.encode()), ("day.bin", data), ("names.txt", names and names.encode())):
+    for name, content in (("shares.txt", sheet), ("day.txt", text), ("day.bin", data), ("names.txt", names)):
         if content is not None:
-            (folder / name).write_bytes(content)
+            (folder / name).write_bytes(content.encode() if isinstance(content, str) else content)
     return folder
 
 

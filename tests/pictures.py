@@ -103,15 +103,22 @@ def overdrawn(folder):
     """Alone for two ticks in a window of two: 2000 used, of a budget of 1000. Its thread sleeps half a tick, another may run on core 1 alone."""
     text = ("0 create 0 partition 0 priority 1 mask 1\n0 create 3 partition 0 priority 2 mask 2\n0 ready 0\n"
             "1000 ticks 2 every 1000\n2500 block 0\n3000 ready 3\n4000 tick\n")
-    page, text, _ = drawn(fill(folder, sheet_of(2, 1000, (50, 50)), text, names="0 <hog> & co\n"))
-    used = rows_of(page, "<hog> & co", "used")[0]["name"]
+    page, text, _ = drawn(fill(folder, sheet_of(2, 1000, (50, 50)), text, names="0 <hög> & \"co\"\n"))
+    expect("<hög>" not in text and '& "' not in text, "a name is not escaped")
+    used = rows_of(page, "<hög> & \"co\"", "used")[0]["name"]
     expect("at most 2,000" in used and "overdrawn by 1,000" in used, f"an overdrawn job is told as {used!r}")
     expect("overdrawn" not in rows_of(page, "partition 1", "used")[0]["name"], "a job that never ran is overdrawn")
-    lanes = rows_of(page, "<hog> & co", "thread")
+    # up to 1000 it has budget; then 1000 of the tick before and more, up to the end of the day
+    expect(re.findall(r'<path class="beyond" d="M(\d+) 53[67]h(\d+)"', text) == [("4000", "12000")], "the time beyond the budget is drawn elsewhere")
+    lanes = rows_of(page, "<hög> & \"co\"", "thread")
     expect(lanes[0]["strokes"] == {"running": [(0, 10000)], "blocked": [(10000, 16000)]}, f"thread 0 is drawn as {lanes[0]['strokes']}")
     expect(lanes[1]["strokes"] == {"blocked": [(0, 12000)], "elsewhere": [(12000, 16000)]}, f"thread 3 is drawn as {lanes[1]['strokes']}")
     # the budget is at 1000 of the drawing's 2160, and what is above it has the other colour
     expect(re.search(r'<clipPath id="over0"><rect width="16000" height="(53[67])"', text) is not None, "the budget is drawn elsewhere")
+    # of a budget of 1500 the last cycle is used in the middle of the second of two ticks
+    text = "0 create 0 partition 0 priority 1 mask 1\n0 ready 0\n1000 ticks 2 every 1000\n"
+    _, text, _ = drawn(fill(folder / "rising", sheet_of(2, 1000, (75, 25)), text))
+    expect(re.findall(r'<path class="beyond" d="M(\d+) \d+h(\d+)"', text) == [("12000", "4000")], "the budget is used up at another time")
 
 
 def measured(folder, seed):
@@ -147,6 +154,19 @@ def joined(folder):
     expect(set(strokes) == {"little", "blocked", "running"}, f"narrow pieces are drawn as {set(strokes)}")
 
 
+def slept(folder):
+    """A line through all lanes for each of a few resumes; where they are many, one for those within a pixel, beside the ticks alone."""
+    for count, lines in ((3, 3), (40, 0)):
+        text = "".join(f"{1000 * i} resume\n{1000 * i + 500} tick\n" for i in range(count))
+        _, page, _ = drawn(fill(folder / str(count), sheet_of(2, 1000, (100,)), text))
+        grid, beside = re.search(r'<g id="grid">(.*?)</g></defs>(.*?)</svg>', page).groups()
+        expect((len(uprights(grid)), len(uprights(beside))) == (lines, count - lines), f"{count} resumes are drawn as {uprights(grid + beside)}")
+
+
+def uprights(drawing):
+    return [place for path in re.findall(r'<path class="resume" d="([^"]*)"', drawing) for place in re.findall(r"M(\d+) 0v", path)]
+
+
 def large(folder):
     """100,000 events and more: joined, the page stays small and every job has its lanes."""
     sheet, data = sheet_of(100, 1000, (50, 30, 20)), random_day(1, 100, 1000, 3, 9, 58000)
@@ -167,11 +187,13 @@ def main():
         for seed in range(6):
             measured(folder / f"day{seed}", seed)
         joined(folder / "joined")
+        slept(folder / "slept")
         large(folder / "large")
         shutil.copytree(ROOT / "examples/workshop", folder / "workshop")
-        page, _, _ = drawn(folder / "workshop")
+        page, text, _ = drawn(folder / "workshop")
+        expect(text.count('class="beyond"') == text.count("overdrawn by") == 2, "another number of jobs is overdrawn in the example")
         expect([row["name"] for row in rows_of(page, "screen", "thread")] == ["thread 3", "thread 4"], "the screen's threads have other lanes")
-    print(f"pictures: pages of 11 days, one of them of 100,000 events, {expect.wrong} things wrong")
+    print(f"pictures: pages of 14 days, one of them of 100,000 events, {expect.wrong} things wrong")
     sys.exit(expect.wrong != 0)
 
 

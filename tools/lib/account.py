@@ -1,7 +1,7 @@
 """What a day gave to each job: charged, waited, and the stretches that demand 3 speaks of."""
 from dataclasses import dataclass, field
 
-from lib.programs import Disagreement
+from lib.errors import Disagreement
 from lib.records import RESUME, TICK
 
 # a tick period of a job, as a character

@@ -5,11 +5,12 @@ The number is only foretold here. The proved program says it, and the tools that
 from typing import NamedTuple
 
 from lib import sheets
-from lib.programs import Disagreement
+from lib.errors import Disagreement
 from lib.sheets import HEAD, PARTITIONS, RECORD
 
 ORDER = "W, C, P, M, then S 00, S 01 and so on"
 FEWEST, MOST = len(HEAD) + 1, len(HEAD) + PARTITIONS
+MARK = b"\xef\xbb\xbf"
 
 
 class Fault(NamedTuple):
@@ -58,25 +59,56 @@ def explain(data, number):
 def form_faults(data):
     """What keeps a file from being whole records in their order. There is a fault exactly if it gets number 1 or 2: a file without one is 5 to 20
     lines, each of them the twelve bytes that are wanted in its place."""
-    if not data:
-        return [Fault(1, 1, "the file is empty, or there is none")]
-    if data[:2] in (b"\xff\xfe", b"\xfe\xff") or data[1:4:2] == b"\0\0":
-        return [Fault(1, 1, "the file is saved as UTF-16, two bytes for each letter: save it as plain text (ASCII or UTF-8)")]
-    if b"\n" not in data and b"\r" in data:
-        return [Fault(1, data.index(b"\r") + 1, "the lines end with a carriage return alone: save the file with Unix line ends (LF)")]
+    if fault := file_fault(data):
+        return [fault]
     lines = data.split(b"\n")
     ended = lines[-1] == b""
     if ended:
         lines.pop()
-    faults = [fault for place, line in enumerate(lines[:MOST], 1) for fault in line_faults(place, line)]
+    faults, place = [], 1
+    for number, line in enumerate(lines[:MOST + 1], 1):
+        if place <= MOST or not is_record(line):
+            faults += [Fault(number, column, cause) for column, cause in line_faults(number, place, line)]
+        place = place_after(place, line)
     if not ended:
         faults.append(Fault(len(lines), len(lines[-1]) + 1, "the line feed at the end of the last line is missing: press Enter there, and save"))
-    if len(lines) < FEWEST:
-        faults.append(Fault(len(lines), 1, f"the sheet ends here, after {len(lines)} of at least {FEWEST} lines: {ORDER}"))
-    if len(lines) > MOST:
-        faults.append(Fault(MOST + 1, 1, f"the sheet has {len(lines)} lines, and at most {MOST} are possible: "
-                                         f"{len(HEAD)}, and a share for each of 1 to {PARTITIONS} partitions"))
-    return faults
+    return faults + count_faults(lines)
+
+
+def file_fault(data):
+    """What is wrong with the file as a whole, so that its lines need not be looked at."""
+    if not data:
+        return Fault(1, 1, "the file is empty, or there is none")
+    if data[:2] in (b"\xff\xfe", b"\xfe\xff") or (data[0:4:2] == b"\0\0") != (data[1:4:2] == b"\0\0"):
+        return Fault(1, 1, "the file is saved as UTF-16, two bytes for each letter: save it as plain text (ASCII or UTF-8)")
+    if b"\n" not in data and b"\r" in data:
+        return Fault(1, data.index(b"\r") + 1, "the lines end with a carriage return alone: save the file with Unix line ends (LF)")
+    return None
+
+
+def count_faults(lines):
+    count = sum(map(is_record, lines))
+    if count < FEWEST:
+        return [Fault(len(lines), 1, f"the sheet ends here, after {count} of at least {FEWEST} lines: {ORDER}")]
+    if count > MOST:
+        return [Fault(MOST + 1, 1, f"the sheet has {count} lines, and at most {MOST} are possible: "
+                                   f"{len(HEAD)}, and a share for each of 1 to {PARTITIONS} partitions")]
+    return []
+
+
+def is_record(line):
+    """Whether a line is meant as a record: it is not empty, and no comment."""
+    return bool(line.strip()) and not line.startswith(b"#")
+
+
+def place_after(place, line):
+    """Which place in the order the next line has, so that one line too many or too few is one fault. A line that is no record, or is for an earlier
+    place, takes none; one for a later place leaves out those between."""
+    if not is_record(line):
+        return place
+    text = line[len(MARK):] if line.startswith(MARK) else line
+    found = next((at for at in range(1, MOST + 1) if text.startswith(wanted(at)[0])), place)
+    return max(found + 1, place)
 
 
 def wanted(place):
@@ -87,29 +119,30 @@ def wanted(place):
     return f"S {place - len(HEAD) - 1:02d} ".encode(), "share"
 
 
-def line_faults(place, line):
-    """What is wrong with a line, which stands here without its line feed: what an editor leaves at its ends, then the first wrong byte between."""
+def line_faults(number, place, line):
+    """What is wrong with a line, which stands here without its line feed, in the place that it has in the order: what an editor leaves at its ends,
+    then the first wrong byte between. Each fault is a column and a cause."""
     start, name = wanted(place)
     skipped = 0
-    if place == 1 and line.startswith(b"\xef\xbb\xbf"):
-        yield Fault(1, 1, "the file begins with a byte order mark, three bytes that no editor shows: save it as UTF-8 without one, or as ASCII")
-        skipped = 3
+    if number == 1 and line.startswith(MARK):
+        yield 1, "the file begins with a byte order mark, three bytes that no editor shows: save it as UTF-8 without one, or as ASCII"
+        skipped = len(MARK)
     text = line[skipped:]
     if text.endswith(b"\r"):
-        yield Fault(place, len(line), "a carriage return before the line feed: the file has Windows line ends; save it with Unix line ends (LF)")
+        yield len(line), "a carriage return before the line feed: the file has Windows line ends; save it with Unix line ends (LF)"
         text = text[:-1]
     if text != text.rstrip(b" \t\r") and text.strip():
         text = text.rstrip(b" \t\r")
-        yield Fault(place, skipped + len(text) + 1, "there is a space or tab at the end of the line: take it out")
-    if misfit := start_fault(place, text, start) or value_fault(text[len(start):], start, name):
+        yield skipped + len(text) + 1, "there is a space or tab at the end of the line: take it out"
+    if misfit := start_fault(text, start) or value_fault(text[len(start):], start, name):
         column, cause = misfit
-        yield Fault(place, skipped + column, cause)
+        yield skipped + column, cause
 
 
-def start_fault(place, text, start):
+def start_fault(text, start):
     """The first wrong byte of the letter, the two digits and their spaces: its column and the cause."""
     if not text.strip():
-        return 1, f"the line is empty, and the {start[:1].decode()} line is wanted here"
+        return 1, "the line is empty: take it out"
     if text.startswith(b"#"):
         return 1, "a sheet has no comments: take the line out"
     for at, byte in enumerate(start):
@@ -142,7 +175,8 @@ def value_fault(value, start, name):
             return column, f"the letter {chr(byte)} stands where a digit is wanted"
         return column, f"a digit is wanted here, and not {here}"
     if len(value) != 6:
-        example = f", as in {start.decode()}{int(value):06d}" if value and int(value) <= sheets.LARGEST else ""
+        digits = value.lstrip(b"0")
+        example = f", as in {start.decode()}{digits.decode():0>6}" if value and len(digits) <= 6 else ""
         return len(start) + min(len(value), 6) + 1, f"the number has {len(value)} digits, and six are wanted{example}"
     return None
 

@@ -16,10 +16,14 @@ LITTLE = "little"
 # later ones are drawn over earlier ones
 DRAWN = (BLOCKED, ELSEWHERE, READY, LITTLE, RUNNING)
 HEIGHT = 1000
+# what is beyond the budget is never drawn narrower than this
+SEEN = 4 * PIXEL
 LABELS = 10
-MOST_TICKS = 400
+MOST_TICKS = 100
+# more resumes than this are drawn beside the ticks alone, and not through every lane
+MOST_RESUMES = 30
 # refusals nearer than this part of the width share a mark; so many are listed in words
-TOGETHER = 0.04
+TOGETHER = 0.05
 MOST_LISTED = 500
 LEGEND = ((RUNNING, "running"), (LITTLE, "running a little, where the time is too short to draw"), (READY, "waiting: ready, and another runs"),
           (BLOCKED, "asleep"), (ELSEWHERE, "ready, on other cores alone"), ("level", "used in the window"), ("over", "used beyond the budget"),
@@ -79,9 +83,8 @@ def paths(spans, scale):
     return "".join(f'<path class="{kind}" d="{"".join(parts)}"/>' for kind, parts in strokes.items() if parts)
 
 
-def drawing(inside, height, grid=True):
-    lines = '<use href="#grid"/>' if grid else ""
-    return f'<svg viewBox="0 0 {WIDTH} {height}" preserveAspectRatio="none">{lines}{inside}</svg>'
+def drawing(inside, height):
+    return f'<svg viewBox="0 0 {WIDTH} {height}" preserveAspectRatio="none"><use href="#grid"/>{inside}</svg>'
 
 
 def row(kind, name, lane):
@@ -110,8 +113,24 @@ def kept(points):
     return [points[0], points[low], points[high], points[-1]]
 
 
+def beyond(line, budget, scale):
+    """Where the line is above the budget, as places; pieces less than a pixel apart are one."""
+    found = []
+    for (begin, before), (end, after) in zip(line, line[1:]):
+        if begin == end or after <= budget:
+            continue
+        if before < budget:  # it rises from below
+            begin += (budget - before) * (end - begin) / (after - before)
+        if found and scale.x(begin) - found[-1][1] < PIXEL:
+            found[-1][1] = scale.x(end)
+        else:
+            found.append([scale.x(begin), scale.x(end)])
+    return found
+
+
 def used_row(partition, lanes, sheet, scale):
-    """The line of what was used, filled, with what is beyond the budget in another colour."""
+    """The line of what was used, filled, with what is beyond the budget in another colour, and the budget's line in that colour meanwhile: what is
+    beyond it may be too little to be seen."""
     line = lanes.used[partition] + [(lanes.end, lanes.used[partition][-1][1])]
     budget, most = sheet.budget(partition), max(used for _, used in line)
     top = max(budget, most, 1) * 1.08
@@ -124,6 +143,8 @@ def used_row(partition, lanes, sheet, scale):
               f'<clipPath id="over{partition}"><rect width="{WIDTH}" height="{y(budget)}"/></clipPath></defs>'
               f'<use class="level" href="#used{partition}"/><use class="over" href="#used{partition}" clip-path="url(#over{partition})"/>'
               f'<path class="budget" d="M0 {y(budget)}h{WIDTH}"/>')
+    strokes = "".join(f"M{start} {y(budget)}h{max(end - start, SEEN)}" for start, end in beyond(line, budget, scale))
+    inside += f'<path class="beyond" d="{strokes}"/>' if strokes else ""
     over = f'<br><span class="overdrawn">overdrawn by {count(most - budget)}</span>' if most > budget else ""
     return row("used", f"used, at most {count(most)}<br>budget {count(budget)} (dashed){over}", drawing(inside, HEIGHT))
 
@@ -138,15 +159,22 @@ def step_of(number, most):
     return step
 
 
-def uprights(times, scale, height, kind):
-    return f'<path class="{kind}" d="{"".join(f"M{scale.x(time)} 0v{height}" for time in times)}"/>'
+def uprights(times, scale, kind):
+    """Lines from top to bottom, one for all times within a pixel."""
+    places = {scale.x(time) // PIXEL: scale.x(time) for time in times}
+    return f'<path class="{kind}" d="{"".join(f"M{place} 0v{HEIGHT}" for place in places.values())}"/>'
 
 
 def ticks_row(lanes, scale):
     """The ticks with the numbers of some, and the grid that all other drawings repeat."""
     labelled, marked = step_of(len(lanes.ticks), LABELS), step_of(len(lanes.ticks), MOST_TICKS)
-    grid = uprights(lanes.ticks[labelled - 1::labelled], scale, HEIGHT, "grid") + uprights(lanes.resumes, scale, HEIGHT, "resume")
-    inside = f'<defs><g id="grid">{grid}</g></defs>' + uprights(lanes.ticks[marked - 1::marked], scale, 10, "tick")
+    grid, marks = uprights(lanes.ticks[labelled - 1::labelled], scale, "grid"), uprights(lanes.ticks[marked - 1::marked], scale, "tick")
+    resumes = uprights(lanes.resumes, scale, "resume")
+    if len(lanes.resumes) <= MOST_RESUMES:
+        grid += resumes
+    else:
+        marks += resumes
+    inside = f'<defs><g id="grid">{grid}</g></defs>{marks}'
     labels = "".join(f'<span class="label" style="left:{scale.part(lanes.ticks[i])}">{count(i + 1)}</span>'
                      for i in range(labelled - 1, len(lanes.ticks), labelled))
     name = "ticks" if marked == 1 else f"ticks, a mark for every {count(marked)}"
@@ -167,7 +195,8 @@ def marks_row(lanes, scale, day):
             groups.append([(time, step)])
     marks = []
     for group in groups:
-        label = str(group[0][1].line.refusal) if len(group) == 1 else f"{count(len(group))}&times;"
+        many = str(len(group)) if len(group) < 1000 else f"{len(group) // 1000}k"  # short, because the next mark is near
+        label = str(group[0][1].line.refusal) if len(group) == 1 else f"{many}&times;"
         words = "\n".join(refusal_words(step, day) for _, step in group[:8]) + (f"\nand {count(len(group) - 8)} more" if len(group) > 8 else "")
         marks.append(f'<a class="mark" href="#refused" style="left:{scale.part(group[0][0])}" title="{escape(words)}">{label}</a>')
     return row("marks", "refused events", "".join(marks)) if marks else ""

@@ -4,6 +4,7 @@ from pathlib import Path
 from typing import NamedTuple
 
 from lib import records
+from lib.errors import Failed
 from lib.sheets import RECORD
 
 ROOT = Path(__file__).resolve().parents[2]
@@ -11,14 +12,6 @@ ROOT = Path(__file__).resolve().parents[2]
 PLACES = ("target/bin", "bin")
 # the refusal numbers that a sheet can get; an event gets a higher one
 SHEET_NUMBERS = range(1, 7)
-
-
-class Failed(Exception):
-    """A program is missing, does not run, or answers something that is no answer."""
-
-
-class Disagreement(Exception):
-    """A program answers one thing, and the rules that the tool would explain it by give another. Then there is nothing to explain."""
 
 
 class Line(NamedTuple):

@@ -6,6 +6,9 @@ last record) is written as `raw` with its bytes in hexadecimal, so that decode a
 """
 from typing import NamedTuple
 
+from lib.errors import Mistake
+from lib.text import lines_of, quoted, whole_number
+
 LENGTH = 12
 TICK, CREATE, READY, BLOCK, PRIORITY, END, RESUME = range(1, 8)
 
@@ -23,10 +26,6 @@ FORMS = {
 KINDS = {form[0]: kind for kind, form in FORMS.items()}
 TICKS = ("ticks", "COUNT", "every", "PERIOD")
 LIMITS = {"stamp": 2**32 - 1, "thread": 255, "partition": 255, "priority": 255, "mask": 255, "count": 1_000_000, "period": 2**32 - 1}
-
-
-class Mistake(Exception):
-    """Something that a person wrote and that makes no sense, in words."""
 
 
 class Event(NamedTuple):
@@ -56,11 +55,11 @@ def split(data):
 
 
 def number(word, what):
-    if not (word.isascii() and word.isdigit()):
-        raise Mistake(f"{what} is a whole number, and not {word!r}")
-    value = int(word)
+    value = whole_number(word)
+    if value is None:
+        raise Mistake(f"{what} is a whole number, and not {quoted(word)}")
     if value > LIMITS[what]:
-        raise Mistake(f"{what} is at most {LIMITS[what]}, and not {value}")
+        raise Mistake(f"{what} is at most {LIMITS[what]}, and not {quoted(word)}")
     return value
 
 
@@ -73,7 +72,7 @@ def numbers(words, form):
         if wanted.isupper():
             found[wanted.lower()] = number(word, wanted.lower())
         elif word != wanted:
-            raise Mistake(f"{wanted!r} is wanted, and not {word!r}")
+            raise Mistake(f"{wanted!r} is wanted, and not {quoted(word)}")
     return found
 
 
@@ -100,14 +99,14 @@ def encode_line(text):
         given = numbers(words[1:], TICKS)
         return [record(TICK, stamp + i * given["period"]) for i in range(given["count"])]
     if name not in KINDS:
-        raise Mistake(f"{name!r} is no event: {', '.join(KINDS)}, ticks or raw")
+        raise Mistake(f"{quoted(name)} is no event: {', '.join(KINDS)}, ticks or raw")
     return [record(KINDS[name], stamp, **numbers(words[1:], FORMS[KINDS[name]]))]
 
 
-def encode_text(text):
-    """The records of a text, each with the number of its line."""
+def encode_lines(lines):
+    """The records of lines of text, each with the number of its line."""
     made = []
-    for place, line in enumerate(text.splitlines(), 1):
+    for place, line in enumerate(lines, 1):
         line = line.split("#", 1)[0].strip()
         if not line:
             continue
@@ -120,8 +119,9 @@ def encode_text(text):
     return made
 
 
-def encode(text):
-    return b"".join(data for _, data in encode_text(text))
+def encode(data):
+    """The records of a text file's bytes."""
+    return b"".join(record for _, record in encode_lines(lines_of(data)))
 
 
 def decode_record(data):

@@ -2,7 +2,7 @@
 from dataclasses import dataclass
 
 from lib import records
-from lib.programs import Disagreement
+from lib.errors import Disagreement
 from lib.scheduler import Scheduler
 
 
@@ -27,8 +27,10 @@ class Step:
 def replay(sheet, data, lines):
     """A step for each record. `event` is None in a cut one; `words` say why it was refused; between `start` and `end` the partition `ran` was
     charged, None if the core was idle; the scheduler is as it is after the event, and goes on with the next step."""
+    if len(data) != len(lines):
+        raise Disagreement(f"there are {len(data)} events and {len(lines)} lines")
     scheduler, now = Scheduler(sheet), 0
-    for number, (part, line) in enumerate(zip(data, lines, strict=True), 1):
+    for number, (part, line) in enumerate(zip(data, lines), 1):
         refusal = scheduler.refusal(part)
         if (refusal.number if refusal else 0) != line.refusal:
             raise Disagreement(f"event {number} ({records.decode_record(part)}): the desk answers '{line}', "

@@ -8,7 +8,8 @@
 """
 from dataclasses import dataclass
 
-from lib.records import Mistake
+from lib.errors import Mistake
+from lib.text import lines_of, quoted, whole_number
 
 RECORD = 12
 # the records before the shares: the letter, and the name of the setting in plain lines
@@ -64,13 +65,13 @@ def plain(sheet):
 
 
 def value(word, what):
-    if "," in word or "." in word:
-        raise Mistake(f"{what} is a whole number, and not {word!r}: halves do not exist here, and nothing is shortened")
-    if not (word.isascii() and word.isdigit()):
-        raise Mistake(f"{what} is a whole number, and not {word!r}")
-    if int(word) > LARGEST:
-        raise Mistake(f"{what} has at most six digits, and {word} has more")
-    return int(word)
+    number = whole_number(word)
+    if number is None:
+        halves = ": halves do not exist here, and nothing is shortened" if "," in word or "." in word else ""
+        raise Mistake(f"{what} is a whole number, and not {quoted(word)}{halves}")
+    if number > LARGEST:
+        raise Mistake(f"{what} has at most six digits, and {quoted(word)} has more")
+    return number
 
 
 def read_line(words, settings, shares):
@@ -89,17 +90,17 @@ def read_line(words, settings, shares):
     into[place] = value(words[-1], key)
 
 
-def read_plain(text):
-    """The settings that plain lines give; whether they are within their limits is for the program to say."""
+def read_plain(data):
+    """The settings that a text file of plain lines gives; whether they are within their limits is for the program to say."""
     settings, shares = {}, {}
-    for place, line in enumerate(text.splitlines(), 1):
+    for place, line in enumerate(lines_of(data), 1):
         words = line.split("#", 1)[0].split()
         try:
             if words:
                 read_line(words, settings, shares)
         except Mistake as mistake:
             raise Mistake(f"line {place}: {mistake}")
-    settings = LEFT_OUT | settings
+    settings = {**LEFT_OUT, **settings}
     for name in dict(HEAD).values():
         if name not in settings:
             raise Mistake(f"there is no line for the {name}")

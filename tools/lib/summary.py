@@ -1,6 +1,6 @@
 """The day's account in words, the same for the terminal and the page."""
 from lib.account import RAN, RAN_A_LITTLE, RESUMED, SLEPT, WAITED
-from lib.text import columns, count, percent
+from lib.text import columns, count, counted, percent
 
 HEADS = ("job", "share", "charged", "of the whole", "waited", "longest wait", "promised", "least it got")
 SIDES = "lrrrrrrr"
@@ -9,8 +9,8 @@ STARVED = "STARVED: "
 
 
 def heading(account):
-    return (f"{count(account.events)} events, {count(account.refused)} of them refused; {count(account.ticks)} ticks; {count(account.now)} cycles, "
-            f"of which {count(account.idle)} idle ({percent(account.idle, account.now)})")
+    return (f"{counted(account.events, 'event', 'events')}, {count(account.refused)} of them refused; {counted(account.ticks, 'tick', 'ticks')}; "
+            f"{counted(account.now, 'cycle', 'cycles')}, of which {count(account.idle)} idle ({percent(account.idle, account.now)})")
 
 
 def rows(account, names):
@@ -36,8 +36,8 @@ def remarks(account, names):
 
 def starved_words(account, partition, names):
     job = account.jobs[partition]
-    return (f"{STARVED}{names[partition]} waited {count(job.longest)} cycles, up to cycle {count(job.longest_end)} of the day, without one of its own; "
-            f"that is longer than {account.sheet.stretch()} ticks")
+    return (f"{STARVED}{names[partition]} waited {count(job.longest)} cycles, up to cycle {count(job.longest_end)} of the day, "
+            f"without one of its own; that is longer than {account.sheet.stretch()} ticks")
 
 
 def promise_words(account, partition, names):
@@ -47,7 +47,7 @@ def promise_words(account, partition, names):
         return f"no promise: {name} has a bound of {count(bound)}, which is not above 0{least}"
     if not job.stretches:
         return f"promise not called on: {name} never wanted the processor for {stretch} in a row, all of them on time"
-    stretches = "1 stretch" if job.stretches == 1 else f"{count(job.stretches)} stretches"
+    stretches = counted(job.stretches, "stretch", "stretches")
     return f"promise kept: {name} got {count(job.least)} cycles or more where {count(bound)} are promised ({stretches} of {stretch})"
 
 
@@ -56,7 +56,7 @@ def ruler(ticks):
     text = ""
     for place, tick in enumerate(ticks):
         if tick % 10 == 1 and place >= len(text):
-            text = f"{text:{place}}{tick} "
+            text = f"{text.ljust(place)}{tick} "
     return text
 
 
@@ -70,13 +70,14 @@ def strips(account, names):
 
 
 def text(account, names):
+    """The longest part comes first, so that what a person wants to know stands at the end, where a terminal is."""
+    yield (f"A character for each tick: {RAN} ran half of it or more, {RAN_A_LITTLE} ran a little, {WAITED} waited, {SLEPT} slept, "
+           f"{RESUMED} a resume")
+    yield from strips(account, names)
+    yield ""
     yield heading(account)
     yield ""
     yield from columns([HEADS, *rows(account, names)], SIDES)
     yield ""
     yield explained(account)
     yield from remarks(account, names)
-    yield ""
-    yield (f"A character for each tick: {RAN} ran half of it or more, {RAN_A_LITTLE} ran a little, {WAITED} waited, {SLEPT} slept, "
-           f"{RESUMED} a resume")
-    yield from strips(account, names)
