@@ -5,8 +5,8 @@
  * - now:      stamps, the wrap of the counter, and why a tick that waits is told first;
  * - take_up:  after a reset the saved state is taken up again, if it is of one piece.
  *
- * Everything here runs in the clock's interrupt or in a job's call of the kernel. Both have one priority, so neither interrupts the other, and nothing
- * has to be locked. Both run on the main stack: only that one needs the 2.5 KB that a call of the library may take, a job's stack does not. */
+ * Everything here runs in the clock's interrupt or in a job's call of the kernel. Both have one priority, so neither interrupts the other, and
+ * nothing has to be locked. Both run on the main stack: so the 2.5 KB that a call of the library may take are there once, and not for each job. */
 #include "board.h"
 #include "kernel.h"
 #include "saplingloft.h"
