@@ -108,7 +108,7 @@ def same_answers():
         expect(run([emulator, folder / "damage", *DAMAGES]) == wanted, f"{target}: other answers, states or histories than on x86-64")
         done = (done or []) + [target]
     if done:
-        print(f"board: the same answers on {', '.join(done)}: {len(folders)} streams, {wanted.count(bytes([10])) - 15} sheets and events with damages")
+        print(f"board: the same answers on {', '.join(done)}: {len(folders)} streams, and {len(wanted.splitlines()) - 15:,} lines with damages")
 
 
 # What the restart of the demonstration is replaced by: the saved state is damaged, and then the kernel is restarted, or goes on with it.
@@ -135,7 +135,8 @@ def demonstration(name):
     expect(run([DESK], input=data, cwd=folder) == lines, f"{name}: the kernel's decisions are not the desk's on the same records")
     stamps = [int.from_bytes(data[i + 4:i + 8], "little") for i in range(0, len(data), 12)]
     expect(any(a > 2**32 - 10**6 and b < 10**6 for a, b in zip(stamps, stamps[1:])), f"{name}: the counter does not wrap")
-    expect(data[::12].count(7) == 4, f"{name}: there are {data[::12].count(7)} resumes, and not one at each start and one after each jump of the clock")
+    resumes = data[::12].count(7)
+    expect(resumes == 4, f"{name}: there are {resumes} resumes, and not one at each start and one after each jump of the clock")
     refusals = {lines[i:i + 2] for i in range(0, len(lines), 12)}
     expect(refusals == {b"00", b"10", b"13"}, f"{name}: the refusals are {refusals}")
 
@@ -151,16 +152,15 @@ def demonstration(name):
 
 
 def damaged(name):
-    """A damaged state is not taken up after a restart, and is given up where an event finds it. Both times the kernel starts anew, and the day too."""
-    for label, afterwards, wanted in (
-            ("restart", "__real_restart();", ["started from the sheet", "the saved state is not taken up: the state is not sound", "started from the sheet"]),
-            ("event", "for (;;) {}", ["started from the sheet", "the state is not sound: it is given up", "started from the sheet"])):
+    """A damaged state is not taken up after a restart, and is given up where an event finds it. Each time the kernel and its day start anew."""
+    for label, afterwards, said in (("restart", "__real_restart();", "the saved state is not taken up: the state is not sound"),
+                                    ("event", "for (;;) {}", "the state is not sound: it is given up")):
         folder = OUT / "demo" / f"{name}-{label}"
         folder.mkdir(parents=True, exist_ok=True)
         source = folder / "damaged.c"
         source.write_text(DAMAGED.replace("AFTERWARDS", afterwards))
         printed = run([ROOT / "tools/board-demo", name, folder, "-Wl,--wrap=restart", f"-I{ROOT / 'examples/board'}", source]).decode().splitlines()
-        expect(printed == wanted, f"{name}, a damaged state found by the {label}: the kernel says {printed}")
+        expect(printed == ["started from the sheet", said, "started from the sheet"], f"{name}, a damaged state found by the {label}: the kernel says {printed}")
         data, lines = (folder / "day.bin").read_bytes(), (folder / "lines.txt").read_bytes()
         expect(data[:24:12] == bytes([7, 2]) and run([DESK], input=data, cwd=folder) == lines, f"{name}, {label}: the new day is not the desk's")
 
@@ -174,7 +174,7 @@ def main():
         for name in ("mps2", "microbit"):
             demonstration(name)
             damaged(name)
-        print("board: the kernel decides as the desk does, on a Cortex-M4 and a Cortex-M0, and the radio got what it is promised beside a job that hogs")
+        print("board: on a Cortex-M4 and a Cortex-M0 the kernel decides as the desk does, and beside a job that hogs the radio got what is promised")
     sys.exit(expect.wrong != 0)
 
 
