@@ -160,9 +160,17 @@ def damaged(name):
         source = folder / "damaged.c"
         source.write_text(DAMAGED.replace("AFTERWARDS", afterwards))
         printed = run([ROOT / "tools/board-demo", name, folder, "-Wl,--wrap=restart", f"-I{ROOT / 'examples/board'}", source]).decode().splitlines()
-        expect(printed == ["started from the sheet", said, "started from the sheet"], f"{name}, a damaged state found by the {label}: the kernel says {printed}")
+        wanted = ["started from the sheet", said, "started from the sheet"]
+        expect(printed == wanted, f"{name}, damaged before the {label}: the kernel says {printed}")
         data, lines = (folder / "day.bin").read_bytes(), (folder / "lines.txt").read_bytes()
         expect(data[:24:12] == bytes([7, 2]) and run([DESK], input=data, cwd=folder) == lines, f"{name}, {label}: the new day is not the desk's")
+
+
+def stacks():
+    """What the calls use of the stack is what the compiler says, and the arguments and the frame of who calls."""
+    rows = [line.split("|")[2:-1] for line in run([ROOT / "tools/board-bench"]).decode().splitlines()[-2:]]
+    for said, used in zip(*([int(cell.replace(",", "")) for cell in row] for row in rows)):
+        expect(0 < used - said <= 128, f"a call uses {used} bytes of stack where the compiler's account has {said}")
 
 
 def main():
@@ -174,6 +182,7 @@ def main():
         for name in ("mps2", "microbit"):
             demonstration(name)
             damaged(name)
+        stacks()
         print("board: on a Cortex-M4 and a Cortex-M0 the kernel decides as the desk does, and beside a job that hogs the radio got what is promised")
     sys.exit(expect.wrong != 0)
 

@@ -55,7 +55,7 @@ static inline void write_file(uint32_t file, const void *bytes, uint32_t length)
     semihosting(SYS_WRITE, what);
 }
 
-static inline void leave(int fine)
+static inline __attribute__((noreturn)) void leave(int fine)
 {
     semihosting(SYS_EXIT, (const void *)(fine ? 0x20026 : 0x20023)); /* the end of the program, or an error of it */
     for (;;) {}

@@ -3,13 +3,20 @@
 #include <stddef.h>
 #include <stdint.h>
 
+/* Sixteen bytes at a time as long as it goes, then words, then bytes. */
 void *memcpy(void *to, const void *from, size_t length)
 {
     uint8_t *t = to;
     const uint8_t *f = from;
-    if ((((uintptr_t)t | (uintptr_t)f) & 3) == 0)
+    if ((((uintptr_t)t | (uintptr_t)f) & 3) == 0) {
+        for (; length >= 16; length -= 16, t += 16, f += 16) {
+            uint32_t *words = (uint32_t *)t;
+            const uint32_t *given = (const uint32_t *)f;
+            words[0] = given[0], words[1] = given[1], words[2] = given[2], words[3] = given[3];
+        }
         for (; length >= 4; length -= 4, t += 4, f += 4)
             *(uint32_t *)t = *(const uint32_t *)f;
+    }
     while (length-- > 0)
         *t++ = *f++;
     return to;
@@ -19,9 +26,14 @@ void *memset(void *to, int byte, size_t length)
 {
     uint8_t *t = to;
     uint32_t word = (uint8_t)byte * 0x01010101u;
-    if (((uintptr_t)t & 3) == 0)
+    if (((uintptr_t)t & 3) == 0) {
+        for (; length >= 16; length -= 16, t += 16) {
+            uint32_t *words = (uint32_t *)t;
+            words[0] = word, words[1] = word, words[2] = word, words[3] = word;
+        }
         for (; length >= 4; length -= 4, t += 4)
             *(uint32_t *)t = word;
+    }
     while (length-- > 0)
         *t++ = (uint8_t)byte;
     return to;
