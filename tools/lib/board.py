@@ -155,7 +155,11 @@ def compiled(target, options, sources):
               folder / "sizes.c", "-o", sizes])
         archive.unlink(missing_ok=True)
         said([home / tools / "llvm-ar", "rcsD", archive, *objects])
-    return archive, [elf.Object(path.read_bytes()) for path in objects], elf.Object(sizes.read_bytes())
+    try:
+        return archive, [elf.Object(path.read_bytes()) for path in objects], elf.Object(sizes.read_bytes())
+    except ValueError as error:
+        archive.unlink()
+        raise Failed(f"{target}: {error}")
 
 
 class Archive:
