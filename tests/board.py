@@ -111,6 +111,42 @@ def same_answers():
         print(f"board: the same answers on {', '.join(done)}: {len(folders)} streams, and {len(wanted.splitlines()) - 15:,} lines with damages")
 
 
+# riscv32 has no Linux among Debian's packages: its program runs on a bare machine, and what it is asked for is compiled in.
+RISCV32 = "riscv32imac-unknown-none-elf"
+ASKED = """
+int program(int, char **);
+int main(void)
+{
+    char *words[] = { "damage", "7", "150", 0 };
+    return program(3, words);
+}
+"""
+
+
+def same_on_riscv32():
+    """The damages, as on x86-64."""
+    packages = "gcc-riscv64-unknown-elf picolibc-riscv64-unknown-elf qemu-system-misc"
+    if not there(f"the answers of {RISCV32}", packages, "riscv64-unknown-elf-gcc", "qemu-system-riscv32"):
+        return
+    if not Path(run(["riscv64-unknown-elf-gcc", "-print-file-name=picolibc.specs"]).decode().strip()).is_file():
+        print(f"board: LEFT OUT: the answers of {RISCV32}. Debian has what it needs in the packages {packages}")
+        return
+    folder = OUT / RISCV32
+    folder.mkdir(parents=True, exist_ok=True)
+    (folder / "main.c").write_text(ASKED)
+    compiler = ["riscv64-unknown-elf-gcc", "--specs=picolibc.specs", "--oslib=semihost", "--crt0=hosted", "-march=rv32imac", "-mabi=ilp32",
+                "-std=c11", "-O2"]
+    run([*compiler, f"-I{ROOT / 'include'}", "-Dmain=program", "-c", ROOT / "tools/damage.c", "-o", folder / "damage.o"])
+    places = {"__flash": "0x80000000", "__flash_size": "4M", "__ram": "0x80400000", "__ram_size": "8M"}
+    run([*compiler, folder / "main.c", folder / "damage.o", board.OUT / RISCV32 / "libsaplingloft.a",
+         *(f"-Wl,--defsym={name}={place}" for name, place in places.items()), "-o", folder / "damage"])
+    # the emulator's console goes to standard error
+    done = subprocess.run(["qemu-system-riscv32", "-M", "virt", "-bios", "none", "-display", "none", "-monitor", "none", "-serial", "none",
+                           "-semihosting-config", "enable=on,target=native", "-kernel", folder / "damage"], stderr=subprocess.PIPE, timeout=120)
+    expect(done.stderr == run([OUT / "x86-64/damage", "7", "150"]), f"{RISCV32}: other answers, states or histories than on x86-64")
+    print(f"board: the same answers on {RISCV32}: {len(done.stderr.splitlines()) - 15:,} lines with damages")
+
+
 # What the restart of the demonstration is replaced by: the saved state is damaged, and then the kernel is restarted, or goes on with it.
 DAMAGED = """
 #include "saplingloft.h"
@@ -178,6 +214,7 @@ def main():
     print(f"board: {count} archives, each calls what is listed and no more")
     same_module()
     same_answers()
+    same_on_riscv32()
     if there("the kernel of examples/board", "gcc-arm-none-eabi qemu-system-arm", "arm-none-eabi-gcc", "qemu-system-arm"):
         for name in ("mps2", "microbit"):
             demonstration(name)
