@@ -1,7 +1,7 @@
 #!/usr/bin/env python3
-"""The library for a board's processor: it is made of the module of the proved library for x86-64, calls nothing from outside that tools/targets.ini
-does not list, and answers like x86-64, byte for byte, on the vectors, on streams of the reference and on damaged states. The kernel of examples/board
-decides as the desk does on the same records, and a job that hogs the processor does not starve the radio.
+"""The library for a board's processor: it is made of the module of the proved library for x86-64, calls nothing from outside that
+tools/boards/targets.ini does not list, and answers like x86-64, byte for byte, on the vectors, on streams of the reference and on damaged states. The
+kernel of examples/board decides as the desk does on the same records, and a job that hogs the processor does not starve the radio.
 
 What needs a cross compiler or an emulator runs where they are there. What is left out is said, with the Debian packages that it needs.
 """
@@ -14,12 +14,13 @@ from expecting import Expecting
 from folders import DESK, ROOT, VECTORS, Judged, show, table
 
 sys.path.insert(0, str(ROOT / "tools"))
-from lib import board
+from boards import archive as board
 
 expect = Expecting("board")
 OUT = ROOT / "target/board/test"
 SEEDS = (1, 2, 3, 5, 8, 13, 21, 34)
 DAMAGES = ("7", "1500")  # a seed, and so many sheets
+COUNTS = 15 + 4          # lines at the end of tools/boards/damage.c: each refusal, 0 to 14, and each mode
 # The archives that are run: the target, a C compiler that links it into a program for Linux, the emulator, and the Debian packages of both.
 # Those for the two Cortex-M are run as they are: the emulator's processor has all their instructions. The compiler's own programs pass floating-point
 # numbers in another way, of which there are none.
@@ -83,7 +84,7 @@ def streams():
 def built(compiler, archive, folder):
     """The programs in C, for one processor."""
     folder.mkdir(parents=True, exist_ok=True)
-    for source in ("tools/desk.c", "tools/damage.c", "tools/layout.c"):
+    for source in ("tools/desk.c", "tools/boards/damage.c", "tools/layout.c"):
         run([*compiler, "-std=c11", "-O2", f"-I{ROOT / 'include'}", ROOT / source, archive, "-o", folder / Path(source).stem])
     return folder
 
@@ -92,8 +93,8 @@ def same_answers():
     """Every processor answers as the reference and other schedulers do on their streams, and as x86-64 on damaged states."""
     here = built(["cc"], ROOT / "target/staticlib/libsaplingloft.a", OUT / "x86-64")
     wanted, layout = run([here / "damage", *DAMAGES]), run([here / "layout"])
-    counts = dict(line.split(": ") for line in wanted.decode().splitlines() if line.startswith("refusal "))
-    expect(len(counts) == 15 and all(int(count) > 20 for count in counts.values()), f"the damages do not meet every refusal: {counts}")
+    counts = dict(line.split(": ") for line in wanted.decode().splitlines() if ": " in line)
+    expect(len(counts) == COUNTS and all(int(count) > 20 for count in counts.values()), f"the damages do not meet every refusal and mode: {counts}")
     folders = done = None
     for target, compiler, emulator, packages in RUN:
         words = compiler.split()
@@ -108,7 +109,7 @@ def same_answers():
         expect(run([emulator, folder / "damage", *DAMAGES]) == wanted, f"{target}: other answers, states or histories than on x86-64")
         done = (done or []) + [target]
     if done:
-        print(f"board: the same answers on {', '.join(done)}: {len(folders)} streams, and {len(wanted.splitlines()) - 15:,} lines with damages")
+        print(f"board: the same answers on {', '.join(done)}: {len(folders)} streams, and {len(wanted.splitlines()) - COUNTS:,} lines with damages")
 
 
 # riscv32 has no Linux among Debian's packages: its program runs on a bare machine, and what it is asked for is compiled in.
@@ -136,7 +137,7 @@ def same_on_riscv32():
     (folder / "main.c").write_text(ASKED)
     compiler = ["riscv64-unknown-elf-gcc", "--specs=picolibc.specs", "--oslib=semihost", "--crt0=hosted", "-march=rv32imac", "-mabi=ilp32",
                 "-std=c11", "-O2"]
-    run([*compiler, f"-I{ROOT / 'include'}", "-Dmain=program", "-c", ROOT / "tools/damage.c", "-o", folder / "damage.o"])
+    run([*compiler, f"-I{ROOT / 'include'}", "-Dmain=program", "-c", ROOT / "tools/boards/damage.c", "-o", folder / "damage.o"])
     places = {"__flash": "0x80000000", "__flash_size": "4M", "__ram": "0x80400000", "__ram_size": "8M"}
     run([*compiler, folder / "main.c", folder / "damage.o", board.OUT / RISCV32 / "libsaplingloft.a",
          *(f"-Wl,--defsym={name}={place}" for name, place in places.items()), "-o", folder / "damage"])
@@ -144,19 +145,21 @@ def same_on_riscv32():
     done = subprocess.run(["qemu-system-riscv32", "-M", "virt", "-bios", "none", "-display", "none", "-monitor", "none", "-serial", "none",
                            "-semihosting-config", "enable=on,target=native", "-kernel", folder / "damage"], stderr=subprocess.PIPE, timeout=120)
     expect(done.stderr == run([OUT / "x86-64/damage", "7", "150"]), f"{RISCV32}: other answers, states or histories than on x86-64")
-    print(f"board: the same answers on {RISCV32}: {len(done.stderr.splitlines()) - 15:,} lines with damages")
+    print(f"board: the same answers on {RISCV32}: {len(done.stderr.splitlines()) - COUNTS:,} lines with damages")
 
 
-# What the restart of the demonstration is replaced by: the saved state is damaged, and then the kernel is restarted, or goes on with it.
-DAMAGED = """
+# What the restart of the demonstration is replaced by: the saved state is changed, and then the kernel is restarted, or goes on with it.
+CHANGED = """
 #include "saplingloft.h"
 #include "kernel.h"
 void __real_restart(void);
 void __wrap_restart(void)
 {
     for (uint32_t *word = (uint32_t *)0x20000000; word != (uint32_t *)0x20001000; word++)
-        if (word[0] == SAPLINGLOFT_VERSION && word[1] == sizeof(struct saplingloft_state))
-            ((struct saplingloft_state *)(word + 2))->used[RADIO] += 1;
+        if (word[0] == SAPLINGLOFT_VERSION && word[1] == sizeof(struct saplingloft_state)) {
+            struct saplingloft_state *state = (struct saplingloft_state *)(word + 2);
+            CHANGE
+        }
     AFTERWARDS
 }
 """
@@ -188,16 +191,20 @@ def demonstration(name):
 
 
 def damaged(name):
-    """A damaged state is not taken up after a restart, and is given up where an event finds it. Each time the kernel and its day start anew."""
-    for label, afterwards, said in (("restart", "__real_restart();", "the saved state is not taken up: the state is not sound"),
-                                    ("event", "for (;;) {}", "the state is not sound: it is given up")):
+    """A damaged state is not taken up after a restart, and is given up where an event finds it; nor is one of another sheet taken up. Each time the
+    kernel and its day start anew."""
+    damage, other_sheet = "state->used[RADIO] += 1;", "state->settings.shares[RADIO] += 1; state->settings.shares[SCREEN] -= 1;"
+    restart, go_on = "__real_restart();", "for (;;) {}"
+    for label, change, afterwards, said in (("restart", damage, restart, ["the saved state is not taken up: the state is not sound"]),
+                                            ("event", damage, go_on, ["the state is not sound: it is given up"]),
+                                            ("sheet", other_sheet, restart, [])):
         folder = OUT / "demo" / f"{name}-{label}"
         folder.mkdir(parents=True, exist_ok=True)
-        source = folder / "damaged.c"
-        source.write_text(DAMAGED.replace("AFTERWARDS", afterwards))
+        source = folder / "changed.c"
+        source.write_text(CHANGED.replace("CHANGE", change).replace("AFTERWARDS", afterwards))
         printed = run([ROOT / "tools/board-demo", name, folder, "-Wl,--wrap=restart", f"-I{ROOT / 'examples/board'}", source]).decode().splitlines()
-        wanted = ["started from the sheet", said, "started from the sheet"]
-        expect(printed == wanted, f"{name}, damaged before the {label}: the kernel says {printed}")
+        wanted = ["started from the sheet", *said, "started from the sheet"]
+        expect(printed == wanted, f"{name}, changed before the {label}: the kernel says {printed}")
         data, lines = (folder / "day.bin").read_bytes(), (folder / "lines.txt").read_bytes()
         expect(data[:24:12] == bytes([7, 2]) and run([DESK], input=data, cwd=folder) == lines, f"{name}, {label}: the new day is not the desk's")
 

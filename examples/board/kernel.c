@@ -115,7 +115,7 @@ static void tick(void)
     tick_stamp += period();
     tell_of(SAPLINGLOFT_KIND_TICK, 0, tick_stamp);
     for (uint32_t job = 0; job < JOBS; job++) {
-        if (asleep[job] && ticks == due[job]) {
+        if (asleep[job] && ticks - due[job] <= UINT32_MAX / 2) { /* it is past: asked of the difference, as this count wraps too */
             asleep[job] = 0;
             tell_of(SAPLINGLOFT_KIND_READY, job, tick_stamp);
         }
@@ -185,7 +185,7 @@ __attribute__((naked)) void call_interrupt(void)
 }
 
 /* The switch. Half of the registers the processor puts onto a thread's stack itself. The other half goes to the stack of the thread that ran, and
- * comes from the stack of the one that was chosen. */
+ * comes from the stack of the one that was chosen. Jobs that compute with floating point need those registers kept too; the library has none. */
 __attribute__((naked)) void switch_interrupt(void)
 {
     __asm__ volatile(".syntax unified\n"
@@ -223,10 +223,23 @@ static __attribute__((noreturn)) void become_idle(void)
 
 /* ---- The start */
 
-/* A state that is still there from before a reset. The decision door says whether it can be used. The jobs begin anew, so all are ready again. */
+/* Whether the state was made from the sheet that this kernel has: after it was flashed with another one, the old state is still there. */
+static int of_this_sheet(void)
+{
+    struct saplingloft_settings wanted;
+    if (saplingloft_read_sheet(&wanted, sheet, (size_t)(sheet_end - sheet)) != SAPLINGLOFT_ACCEPTED)
+        return 0;
+    const uint8_t *one = (const uint8_t *)&wanted, *other = (const uint8_t *)&kept.state.settings;
+    for (size_t i = 0; i < sizeof wanted; i++)
+        if (one[i] != other[i])
+            return 0;
+    return 1;
+}
+
+/* A state that is still there from before a reset. The decision door says whether it can be used. */
 static int take_up(void)
 {
-    if (kept.version != SAPLINGLOFT_VERSION || kept.size != sizeof kept.state)
+    if (kept.version != SAPLINGLOFT_VERSION || kept.size != sizeof kept.state || !of_this_sheet())
         return 0;
     enum saplingloft_refusal refusal = saplingloft_decision(&kept.state, kept.history, HISTORY).refusal;
     if (refusal != SAPLINGLOFT_ACCEPTED) {
@@ -261,7 +274,7 @@ int main(void)
 
     tick_stamp = 0u - 80 * period();                 /* any reading will do; from this one the counter wraps after eighty ticks */
     tell_of(SAPLINGLOFT_KIND_RESUME, 0, tick_stamp); /* where the counter stands now: nothing is charged for the time before */
-    for (uint32_t job = 0; job < JOBS; job++) {
+    for (uint32_t job = 0; job < JOBS; job++) { /* the jobs begin anew after a reset, so all are ready */
         struct saplingloft_record create = { SAPLINGLOFT_KIND_CREATE, (uint8_t)job, (uint8_t)job, jobs[job].priority, tick_stamp, 1 };
         prepare(&threads[job], jobs[job].body);
         if (!kept.state.exists[job])

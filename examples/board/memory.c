@@ -1,5 +1,5 @@
-/* Copying and filling memory: all that the library calls from outside on a Cortex-M4 (tools/targets.ini has the list), and what a C compiler takes
- * for granted. */
+/* Copying and filling memory: all that the library calls from outside on a Cortex-M4 (tools/boards/targets.ini has the list), and what a C compiler
+ * takes for granted. */
 #include <stddef.h>
 #include <stdint.h>
 

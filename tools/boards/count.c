@@ -7,7 +7,7 @@
  *
  * Prints a line for each size: partitions, threads, window; instructions of event, mean and most, of an event of a run, mean and most, of the test of
  * a state, mean and most, and of a resume; bytes of stack of start, event, run, decision and remaining. */
-#include "../examples/board/board.h"
+#include "../../examples/board/board.h"
 #include "saplingloft.h"
 
 void *memcpy(void *to, const void *from, size_t length);

@@ -3,23 +3,24 @@
  *     damage SEED SHEETS
  *
  * Prints a line for each event: what the doors answered on a state that is sound or was damaged, and a number made of every byte that they left. Two
- * processors have to print the same bytes. At the end it says how often each refusal came, so that a reader sees that none is missing. */
+ * processors have to print the same bytes. At the end it says how often each refusal and each mode came, so that a reader sees that none is
+ * missing. */
 #include "saplingloft.h"
 
 #include <stdio.h>
 #include <stdlib.h>
 #include <string.h>
 
-enum { EVENTS = 60, FEW = 3, MARGIN = 4 /* numbers of history after the last row, which nobody may touch */ };
+enum { EVENTS = 60, THREADS = 8, FEW = 3, MARGIN = 4 /* numbers of history after the last row, which nobody may touch */ };
 
 struct memory {
     struct saplingloft_state state;
     uint32_t history[SAPLINGLOFT_HISTORY + MARGIN];
 };
 static struct memory sound, damaged;
-static size_t length; /* of the history that is lent */
-static uint32_t stamp;
-static unsigned long seen[16];
+static size_t length;   /* of the history that is lent */
+static uint32_t quarter; /* of a tick; 0 in the sheets whose stamps may be anywhere */
+static unsigned long seen[16], modes[4];
 
 static uint64_t number;
 static uint32_t below(uint32_t limit)
@@ -43,8 +44,8 @@ static uint64_t digest(const struct memory *memory)
 /* Shares that add up to 100, some of them 0; now and then a number that is out of its limits, a byte that is wrong, or an end that is missing. */
 static size_t make_sheet(uint8_t sheet[SAPLINGLOFT_SHEET + 1])
 {
-    uint32_t partitions = 1 + below(SAPLINGLOFT_PARTITIONS), left = 100, wrong = below(12);
-    uint32_t window = wrong == 0 ? below(2) * 401 : 2 + below(below(8) == 0 ? 399 : 20);
+    uint32_t partitions = 1 + below(below(4) == 0 ? SAPLINGLOFT_PARTITIONS : 4), left = 100, wrong = below(12);
+    uint32_t window = wrong == 0 ? below(2) * 401 : 2 + below(below(8) == 0 ? 399 : 5);
     uint32_t tick = wrong == 1 ? 150 : 100 * (1 + below(below(4) == 0 ? 9999 : 20));
     uint32_t policy = wrong == 2 ? 2 : below(2);
     uint32_t core = below(8);
@@ -62,15 +63,25 @@ static size_t make_sheet(uint8_t sheet[SAPLINGLOFT_SHEET + 1])
     return (size_t)at - (wrong == 5 ? below(13) : 0);
 }
 
-static void make_event(uint8_t event[SAPLINGLOFT_RECORD])
+/* First all threads are created and made ready, so that all partitions compete, and then anything may happen, mostly ticks. */
+static void make_event(uint8_t event[SAPLINGLOFT_RECORD], uint32_t step)
 {
-    static const uint8_t kinds[] = { 1, 1, 1, 2, 2, 3, 3, 3, 3, 4, 4, 5, 6, 7 };
+    static const uint8_t kinds[] = { 1, 1, 1, 1, 1, 1, 2, 3, 3, 3, 3, 4, 4, 5, 5, 6, 7 };
     uint32_t tick = sound.state.settings.tick;
-    struct saplingloft_record record = { (enum saplingloft_kind)kinds[below(sizeof kinds)], 0, 0, 0, 0, 0 };
-    stamp = sound.state.stamp + below(below(20) == 0 ? 3 * tick : tick / 4);
-    record.stamp = stamp;
+    struct saplingloft_record record = { (enum saplingloft_kind)kinds[below(below(8) == 0 ? sizeof kinds : sizeof kinds - 1)], 0, 0, 0, 0, 0 };
+    if (step < 2 * THREADS) {
+        record.kind = step < THREADS ? SAPLINGLOFT_KIND_CREATE : SAPLINGLOFT_KIND_READY;
+        record.thread = (uint8_t)(step % THREADS);
+        record.partition = step < THREADS ? (uint8_t)(step % sound.state.settings.count) : 0;
+        record.priority = step < THREADS ? (uint8_t)below(256) : 0;
+        record.stamp = sound.state.stamp;
+        record.mask = step < THREADS ? 255 : 0;
+        saplingloft_encode(&record, event);
+        return;
+    }
+    record.stamp = sound.state.stamp + (quarter == 0 ? below(below(20) == 0 ? 3 * tick : tick / 4) : quarter * below(below(8) == 0 ? 10 : 3));
     if (record.kind >= SAPLINGLOFT_KIND_CREATE && record.kind <= SAPLINGLOFT_KIND_END)
-        record.thread = (uint8_t)below(below(30) == 0 ? 256 : 8);
+        record.thread = (uint8_t)below(below(30) == 0 ? 256 : THREADS + 1);
     if (record.kind == SAPLINGLOFT_KIND_CREATE) {
         record.partition = (uint8_t)below(below(20) == 0 ? 256 : sound.state.settings.count);
         record.mask = (uint8_t)(below(3) == 0 ? below(256) : 255);
@@ -83,11 +94,11 @@ static void make_event(uint8_t event[SAPLINGLOFT_RECORD])
         event[place] = (uint8_t)byte;
 }
 
-/* In three of four cases one to three places, of the state or of a row: a bit, or any number. */
+/* In two of three cases one to three places, of the state or of a row: a bit, or any number. */
 static void damage(void)
 {
     damaged = sound;
-    if (below(4) == 0)
+    if (below(3) == 0)
         return;
     for (uint32_t times = 1 + below(3); times > 0; times--) {
         uint8_t *bytes = below(3) == 0 ? (uint8_t *)damaged.history : (uint8_t *)&damaged.state;
@@ -100,16 +111,17 @@ static void damage(void)
 static uint32_t packed(struct saplingloft_answer answer)
 {
     seen[answer.refusal % 16]++;
+    modes[answer.mode % 4] += answer.refusal == SAPLINGLOFT_ACCEPTED;
     return (uint32_t)answer.refusal + 256u * answer.mode + 65536u * answer.partition + 16777216u * answer.thread;
 }
 
 /* All doors on what may be damaged, and then the event on what is sound. */
-static void step(void)
+static void step(uint32_t number_of)
 {
     uint8_t events[FEW * SAPLINGLOFT_RECORD], lines[sizeof events];
-    for (int i = 0; i < FEW; i++)
-        make_event(events + i * SAPLINGLOFT_RECORD);
-    size_t cut = below(20) == 0 ? below(SAPLINGLOFT_RECORD) : SAPLINGLOFT_RECORD, lent = below(40) == 0 ? below((uint32_t)length) : length;
+    for (uint32_t i = 0; i < FEW; i++)
+        make_event(events + i * SAPLINGLOFT_RECORD, number_of + i);
+    size_t cut = below(30) == 0 ? below(SAPLINGLOFT_RECORD) : SAPLINGLOFT_RECORD, lent = below(40) == 0 ? below((uint32_t)length) : length;
     memset(lines, '-', sizeof lines);
 
     damage();
@@ -140,11 +152,12 @@ static void session(void)
         written = saplingloft_write_sheet(&settings, back, sizeof back);
     length = refusal == SAPLINGLOFT_ACCEPTED ? saplingloft_history(&settings) : 0;
     refusal = saplingloft_start(&sound.state, sound.history, length, sheet, bytes);
+    quarter = below(2) * sound.state.settings.tick / 4;
     seen[refusal % 16]++;
     printf("%02u %u %u %016llx\n", (unsigned)refusal, (unsigned)written.length, memcmp(back, sheet, written.length) == 0,
            (unsigned long long)digest(&sound));
-    for (int i = 0; refusal == SAPLINGLOFT_ACCEPTED && i < EVENTS; i++)
-        step();
+    for (uint32_t i = 0; refusal == SAPLINGLOFT_ACCEPTED && i < EVENTS; i++)
+        step(i);
 }
 
 int main(int count, char **words)
@@ -156,5 +169,7 @@ int main(int count, char **words)
         session();
     for (int i = 0; i < 15; i++)
         printf("refusal %d: %lu\n", i, seen[i]);
+    for (int i = 0; i < 4; i++)
+        printf("mode %d: %lu\n", i, modes[i]);
     return 0;
 }

@@ -7,15 +7,16 @@ that keeps the module and goes on as usual. Nothing is needed but the kit.
 import configparser
 import os
 import re
+import shlex
 import shutil
 import subprocess
 from pathlib import Path
 
-from lib import elf
+from boards import elf
 
 ROOT = Path(__file__).resolve().parents[2]
 OUT = ROOT / "target/board"
-LIST = ROOT / "tools/targets.ini"
+LIST = ROOT / "tools/boards/targets.ini"
 CRATES = ("saplingloft", "saplingloft_run")
 DOORS = ("start", "event", "run", "decision", "remaining", "read_sheet", "write_sheet")
 # as the kit compiles for x86-64, but for the level: a board has less room
@@ -68,7 +69,7 @@ def mirrored(work, home, tools):
     shutil.copytree(home, work / "kit", copy_function=os.symlink)
     compiler = work / "kit" / tools / "clang"
     compiler.unlink()
-    compiler.write_text(KEEPER.format(kept=work / "kept.bc", compiler=home / tools / "clang"))
+    compiler.write_text(KEEPER.format(kept=shlex.quote(str(work / "kept.bc")), compiler=shlex.quote(str(home / tools / "clang"))))
     compiler.chmod(0o755)
     (work / "tree/target").mkdir(parents=True)
     for name in ("crates", "crates.txt", "target/rlib", "target/stamp", "target/log"):
