@@ -33,7 +33,7 @@ RUN = (
 
 
 def run(words, **more):
-    done = subprocess.run([str(word) for word in words], stdout=subprocess.PIPE, stderr=subprocess.PIPE, timeout=120, **more)
+    done = subprocess.run([str(word) for word in words], stdout=subprocess.PIPE, stderr=subprocess.PIPE, timeout=600, **more)
     expect(done.returncode == 0, f"{' '.join(map(str, words))} ended with {done.returncode}: {done.stderr.decode(errors='replace')[-400:]}")
     return done.stdout
 
@@ -143,7 +143,7 @@ def same_on_riscv32():
          *(f"-Wl,--defsym={name}={place}" for name, place in places.items()), "-o", folder / "damage"])
     # the emulator's console goes to standard error
     done = subprocess.run(["qemu-system-riscv32", "-M", "virt", "-bios", "none", "-display", "none", "-monitor", "none", "-serial", "none",
-                           "-semihosting-config", "enable=on,target=native", "-kernel", folder / "damage"], stderr=subprocess.PIPE, timeout=120)
+                           "-semihosting-config", "enable=on,target=native", "-kernel", folder / "damage"], stderr=subprocess.PIPE, timeout=600)
     expect(done.stderr == run([OUT / "x86-64/damage", "7", "150"]), f"{RISCV32}: other answers, states or histories than on x86-64")
     print(f"board: the same answers on {RISCV32}: {len(done.stderr.splitlines()) - COUNTS:,} lines with damages")
 
