@@ -179,6 +179,14 @@ def demonstration(name):
     refusals = {lines[i:i + 2] for i in range(0, len(lines), 12)}
     expect(refusals == {b"00", b"10", b"13"}, f"{name}: the refusals are {refusals}")
 
+    # A job blocks by itself, so it has to run: the thread that blocks is the one that was chosen, unless a tick came just then.
+    blocks, chosen, others = 0, None, 0
+    for i in range(0, len(data), 12):
+        if data[i] == 4:
+            blocks, others = blocks + 1, others + (data[i + 1] != chosen)
+        chosen = int(lines[i + 8:i + 11]) if lines[i:i + 2] == b"00" else chosen
+    expect(blocks > 100 and others <= blocks // 20, f"{name}: of {blocks} threads that blocked {others} were not chosen")
+
     # The screen has the highest priority and never blocks, and the radio always wants the processor: it gets what demand 3 promises.
     judged = Judged((folder / "shares.txt").read_bytes(), data, [lines[i:i + 12] for i in range(0, len(lines), 12)])
     rows = table(show(folder, "--brief").stdout)
