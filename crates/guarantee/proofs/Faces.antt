@@ -1,9 +1,9 @@
--- Demand 3 looks at the events' bytes and at the lines that answered them, and not at the states that they left: two lists of entries that are alike
--- in the former are served alike.
+-- Demands 2 and 3 look at the events' bytes and at the lines that answered them, and not at the states that they left: of two lists of entries that
+-- are alike in the former they say the same.
 use mathlib.Core.Path.{_≡_, refl, sym, ap, ap₂, subst, _∙_}
 use Prim.Native.Nat.{ℕ, zero, suc, _+_, _≤_, _<_}
 use mathlib.Core.Bool.{Bool, true, not, cond, _&&_, _||_}
-use mathlib.Core.List.{List, [], _∷_, _++_, map, map-append}
+use mathlib.Core.List.{List, [], _∷_, _++_, map, map-map, map-append}
 use lib.ListN.{length, take, length-map}
 use lib.IntN.{pos}
 use lib.Signed.{_≤ℤ_}
@@ -19,6 +19,7 @@ use Rattle.model.specs.Run.{Entry}
 use Rattle.sheet.specs.Settings.{C}
 use Rattle.sheet.specs.declared.Settings.{Settings}
 use Rattle.guarantee.specs.Demand3.{accepted, isKind, Last, lastOf, elapsedSince, chargeOf, chargedTo, fullTicks, Stretch, Known, toldBy, knownAfter, knownAt, waitsIn, waits, bound, Served}
+use Rattle.guarantee.specs.Ledger.{addFirst, ledger}
 
 -- ---- a list whose image is in parts is in parts
 
@@ -93,6 +94,20 @@ module _ (v : Saved) where
   waits-seen : (s : State) (p : ℕ) (es : List Entry) → waits s (faces es) p ≡ waits s es p
   unfolding waits
   waits-seen s p es = ap (λ (f : ℕ → Bool). any f (below 64)) (λ i t. waitsIn p (s .settings .core) (known-seen t (knownAt s t) es i))
+
+  kept-seen : {A : Type 0} (f : Entry → A) → ((e : Entry) → f (face e) ≡ f e) → (es : List Entry)
+      → map f (keep accepted (faces es)) ≡ map f (keep accepted es)
+  kept-seen f h es =
+      ap (map f) (keep-map accepted face es) ∙ map-map f face (keep accepted es) ∙ ap (λ (g : Entry → _). map g (keep accepted es)) (λ i e. h e i)
+
+  ledger-seen : (p : ℕ) (l : Last) (ys : List ℕ) (es : List Entry) → ledger p l ys (faces es) ≡ ledger p l ys es
+  unfolding ledger chargeOf
+  ledger-seen p l ys [] = refl
+  ledger-seen p l ys (e ∷ es) = λ i.
+      cond (not (accepted e)) (ledger-seen p l ys es i)
+      (cond (eqb (kindOf (e .event)) Event.resume) (ledger-seen p (lastOf e) (0 ∷ []) es i)
+      (cond (eqb (kindOf (e .event)) Event.tick) (ledger-seen p (lastOf e) (0 ∷ addFirst (chargeOf p l e) ys) es i)
+      (ledger-seen p (lastOf e) (addFirst (chargeOf p l e) ys) es i)))
 
   -- so what looks at faces alone is the same of two lists that look alike
   alike : {X : Type 0} (f : List Entry → X) → ((l : List Entry) → f (faces l) ≡ f l) → {ds es : List Entry} → faces ds ≡ faces es → f ds ≡ f es
@@ -194,6 +209,16 @@ module _ (v : Saved) where
     served-found served st p inside waiting =
         subst (λ (n : ℕ). bound c p ≤ℤ pos n) (charged-too p)
         (served (f .before′) (f .opening′) (f .within′) (f .closing′) (f .later′) (f .whole) (stretch-too st) p inside (waits-too p waiting))
+
+  pub events-alike : (es fs : List Entry) → faces es ≡ faces fs → map (λ e. e .event) (keep accepted es) ≡ map (λ e. e .event) (keep accepted fs)
+  events-alike es fs = alike (λ l. map (λ e. e .event) (keep accepted l)) (kept-seen (λ e. e .event) (λ e. refl))
+
+  pub decisions-alike : (es fs : List Entry) → faces es ≡ faces fs
+      → map (λ e. e .answer .decision) (keep accepted es) ≡ map (λ e. e .answer .decision) (keep accepted fs)
+  decisions-alike es fs = alike (λ l. map (λ e. e .answer .decision) (keep accepted l)) (kept-seen (λ e. e .answer .decision) (λ e. refl))
+
+  pub ledger-alike : (p : ℕ) (l : Last) (ys : List ℕ) (es fs : List Entry) → faces es ≡ faces fs → ledger p l ys es ≡ ledger p l ys fs
+  ledger-alike p l ys es fs = alike (ledger p l ys) (ledger-seen p l ys)
 
   pub served-alike : (s : State) (es fs : List Entry) → faces es ≡ faces fs → Served s es → Served s fs
   served-alike s es fs same served before opening within closing later e =

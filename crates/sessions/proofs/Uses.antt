@@ -1,25 +1,32 @@
--- Runs and calls, one after the other, are calls of the event door and one run of the model, so demand 3 holds of the records that they took and the
--- lines that they answered.
+-- Runs and calls, one after the other, are calls of the event door and one run of the model, so the demands hold of the records that they took and
+-- the lines that they answered.
 use mathlib.Core.Logic.{_≢_}
 use mathlib.Core.Path.{_≡_, refl, sym, ap, ap₂, subst, _∙_}
-use Prim.Native.Nat.{ℕ}
-use mathlib.Core.List.{List, [], _∷_, _++_, map, map-map, map-append}
-use lib.ListN.{length, length-map}
+use Prim.Native.Nat.{ℕ, _<_}
+use mathlib.Core.List.{List, [], _∷_, _++_, map, map-map, map-append, reverse}
+use lib.ListN.{length, take, length-map}
 use borrow.Author.Tests.{ne-eqb}
 use native.Mathlib.Decide.{ℕ-discrete}
+use Rattle.lists.specs.Lists.{sum, keep}
+use Rattle.lists.proofs.All.{keep-map}
 use Rattle.lists.proofs.Tables.{table-length}
+use Rattle.sheet.specs.Settings.{W}
+use Rattle.sheet.specs.Sheet.{settingsOf}
+use Rattle.model.specs.State.{used}
 use Rattle.model.specs.Answers.{Line, answerLine}
 use Rattle.model.specs.Lent.{Lent, stateIn, savedIn, refusedIn}
 use Rattle.model.specs.Run.{Entry, run, after}
 use Rattle.model.specs.Step.{Saved, answer}
 use Rattle.model.specs.Stream.{eventAt, eventsIn}
-use Rattle.guarantee.specs.Demand3.{Served}
-use Rattle.guarantee.proofs.Faces.{face, served-alike}
-use Rattle.doors.specs.Doors.{Sizes}
-use Rattle.sessions.specs.Calls.{Call, chosenBy, entryOf, asEntries, AsCalls}
+use Rattle.guarantee.specs.Demand3.{accepted, Served}
+use Rattle.guarantee.specs.Ledger.{ledger, lastIn, periodsIn}
+use Rattle.guarantee.specs.Account.{Accounted, decisionsFrom}
+use Rattle.guarantee.proofs.Faces.{face, events-alike, decisions-alike, ledger-alike, served-alike}
+use Rattle.doors.specs.Doors.{Sizes, Begun}
+use Rattle.sessions.specs.Calls.{Call, leftBy, givenTo, chosenBy, entryOf, asEntries, acceptedCalls, Session, AsCalls}
 use Rattle.sessions.specs.Uses.{Batch, Use, one, many, Made, leftOf, Uses, leftAfter, takenIn, takenRecords, linesIn, linesBy, allRecords, allLines}
-use Rattle.sessions.specs.Uses.{AsCalled, UsesAreCalls, UsesAreRun, UsesDemand3}
-use Rattle.sessions.proofs.Calls.{calls-are-run, refused-stays, door-demand3}
+use Rattle.sessions.specs.Uses.{AsCalled, UsesAreCalls, UsesAreRun, ReadFrom, UsesDemand3, UsesTotals, acceptedIn, AccountOf, UsesAccount}
+use Rattle.sessions.proofs.Calls.{calls-are-run, refused-stays, door-demand3, door-totals-from, door-account, door-answers}
 use Rattle.sessions.proofs.Runs.{no-events, calls-there, run-is-calls}
 use Rattle.sessions.proofs.Reading.{lines-read}
 
@@ -147,7 +154,7 @@ uses-are-calls x (u ∷ us) q = go (ℕ-discrete (refusedIn x) 0)
         )
     go (no n) = refused-calls x uses q n
 
--- ---- demand 3
+-- ---- the demands
 
 -- what is seen of entries is the events and the lines
 module _ (v : Saved) where
@@ -161,16 +168,60 @@ module _ (v : Saved) where
   zip-faces [] = refl
   zip-faces (e ∷ es) = ap (λ (l : List Entry). face v e ∷ l) (zip-faces es)
 
-pub uses-demand3 : UsesDemand3
-uses-demand3 x uses q es read = go (uses-are-calls x uses q)
-  where
-    v : Saved
-    v = savedIn x
+-- so entries that say what was seen look like those of the calls
+module _ (x : Lent) (uses : List Use) (es : List Entry) (read : ReadFrom uses es) (calls : List Call) (is : AsCalled x uses calls) where
+  abbrev v : Saved
+  v = savedIn x
 
-    go : ((calls : List Call) × AsCalled x uses calls) → Served (stateIn x) es
-    go (calls, is) =
-        let events : map (λ e. e .event) (asEntries calls) ≡ map (λ e. e .event) es =
-        map-map (λ (e : Entry). e .event) entryOf calls ∙ is .records ∙ sym (read .events) in
-        let lines : map seen (asEntries calls) ≡ map seen es = map-map seen entryOf calls ∙ is .lines ∙ sym (read .lines) in
-        served-alike v (stateIn x) (asEntries calls) es (sym (zip-faces v (asEntries calls)) ∙ ap₂ (zip v) events lines ∙ zip-faces v es)
-        (door-demand3 x calls (is .called))
+  same-faces : map (face v) (asEntries calls) ≡ map (face v) es
+  same-faces =
+      let events : map (λ e. e .event) (asEntries calls) ≡ map (λ e. e .event) es =
+      map-map (λ (e : Entry). e .event) entryOf calls ∙ is .records ∙ sym (read .events) in
+      let lines : map seen (asEntries calls) ≡ map seen es = map-map seen entryOf calls ∙ is .lines ∙ sym (read .lines) in
+      sym (zip-faces v (asEntries calls)) ∙ ap₂ (zip v) events lines ∙ zip-faces v es
+
+  served-here : Served (stateIn x) es
+  served-here = served-alike v (stateIn x) (asEntries calls) es same-faces (door-demand3 x calls (is .called))
+
+  totals-here : refusedIn x ≡ 0 → (p : ℕ) → p < stateIn x .settings .count
+      → used (stateIn (leftAfter x uses)) p
+      ≡ sum (take (W (stateIn x .settings)) (ledger p (lastIn (stateIn x)) (periodsIn (stateIn x) (x .history) p) es))
+  totals-here z p i =
+      ap (λ (w : Saved). used (w .state) p) (sym (is .left))
+      ∙ door-totals-from x calls (is .called) z p i
+      ∙ ap (λ (l : List ℕ). sum (take (W (stateIn x .settings)) l))
+      (ledger-alike v p (lastIn (stateIn x)) (periodsIn (stateIn x) (x .history) p) (asEntries calls) es same-faces)
+
+  kept : keep accepted (asEntries calls) ≡ asEntries (acceptedCalls calls)
+  kept = keep-map accepted entryOf calls
+
+  kept-events : givenTo (acceptedCalls calls) ≡ acceptedIn es
+  kept-events =
+      sym (ap (map (λ (e : Entry). e .event)) kept ∙ map-map (λ (e : Entry). e .event) entryOf (acceptedCalls calls))
+      ∙ events-alike v (asEntries calls) es same-faces
+
+  kept-decisions : map (λ c. chosenBy (c .line)) (acceptedCalls calls) ≡ map (λ e. e .answer .decision) (keep accepted es)
+  kept-decisions =
+      sym (ap (map (λ (e : Entry). e .answer .decision)) kept ∙ map-map (λ (e : Entry). e .answer .decision) entryOf (acceptedCalls calls))
+      ∙ decisions-alike v (asEntries calls) es same-faces
+
+  account-here : (lent : Lent) (sheet : List ℕ) → Begun lent sheet 0 x → AccountOf lent sheet (savedIn (leftAfter x uses)) es
+  account-here lent sheet begun =
+      let session : Session lent sheet x calls = record { begun = begun; called = is .called } in
+      record {
+        state =
+            subst (λ (w : Saved). Accounted (settingsOf sheet) (lent .history) (reverse (acceptedIn es)) w) (is .left)
+            (subst (λ (l : List (List ℕ)). Accounted (settingsOf sheet) (lent .history) (reverse l) (savedIn (leftBy x calls))) kept-events
+            (door-account lent sheet x calls session));
+        answers =
+            sym kept-decisions ∙ door-answers lent sheet x calls session ∙ ap (decisionsFrom (settingsOf sheet) []) kept-events;
+      }
+
+pub uses-demand3 : UsesDemand3
+uses-demand3 x uses q es read = let (calls, is) = uses-are-calls x uses q in served-here x uses es read calls is
+
+pub uses-totals : UsesTotals
+uses-totals x uses q z es read = let (calls, is) = uses-are-calls x uses q in totals-here x uses es read calls is z
+
+pub uses-account : UsesAccount
+uses-account x sheet y uses begun q es read = let (calls, is) = uses-are-calls y uses q in account-here y uses es read calls is x sheet begun

@@ -58,6 +58,8 @@ pub record Promised : Type 0 where
   pub uses : Uses.UsesAreCalls
   pub uses-run : Uses.UsesAreRun
   pub uses-demand3 : Uses.UsesDemand3
+  pub uses-totals : Uses.UsesTotals
+  pub uses-account : Uses.UsesAccount
   pub c-calls : FromC.CCallsAreCalls
   pub c-demand3 : FromC.CDemand3
   pub c-decides : FromC.CDecides

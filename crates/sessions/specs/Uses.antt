@@ -1,17 +1,23 @@
 -- The event door and the run door used one after the other, in any order: runs alone, as the desk makes them, calls alone, or both. Over what their
 -- user has in hand: the bytes given, what was answered and written, and all that was lent, as each use left it.
-use Prim.Native.Nat.{ℕ, zero, suc}
+use Prim.Native.Nat.{ℕ, zero, suc, _<_}
 use mathlib.Core.Path.{_≡_}
-use mathlib.Core.List.{List, [], _∷_, _++_, map}
+use mathlib.Core.List.{List, [], _∷_, _++_, map, reverse}
 use lib.ListN.{take, drop}
+use Rattle.lists.specs.Lists.{sum, keep}
 use Rattle.sheet.specs.Records.{numberFrom}
+use Rattle.sheet.specs.Settings.{W}
+use Rattle.sheet.specs.Sheet.{settingsOf}
+use Rattle.model.specs.State.{used}
 use Rattle.model.specs.Answers.{Line, answerLine}
 use Rattle.model.specs.Lent.{Lent, stateIn, savedIn, refusedIn}
 use Rattle.model.specs.Run.{Entry, run, after}
 use Rattle.model.specs.Step.{Saved}
 use Rattle.model.specs.Stream.{eventsIn}
-use Rattle.guarantee.specs.Demand3.{Served}
-use Rattle.doors.specs.Doors.{Answered, Ran}
+use Rattle.guarantee.specs.Demand3.{accepted, Served}
+use Rattle.guarantee.specs.Ledger.{ledger, lastIn, periodsIn}
+use Rattle.guarantee.specs.Account.{Accounted, decisionsFrom}
+use Rattle.doors.specs.Doors.{Begun, Answered, Ran}
 use Rattle.sessions.specs.Calls.{Call, Calls, leftBy, givenTo, takenOf}
 
 -- ---- uses of the two doors
@@ -114,14 +120,36 @@ UsesAreRun =
     (x : Lent) (uses : List Use) → Uses x uses → refusedIn x ≡ 0 →
     IsOneRun (savedIn x) uses (savedIn (leftAfter x uses)) × (refusedIn (leftAfter x uses) ≡ 0)
 
--- ---- demand 3
+-- ---- the demands
 
--- entries that say what was seen: the records that were taken, and the lines that answered them. Demand 3 looks at nothing else in an entry. The
+-- entries that say what was seen: the records that were taken, and the lines that answered them. The demands look at nothing else in an entry. The
 -- entries of the calls that UsesAreCalls gives are such
 pub record ReadFrom (uses : List Use) (es : List Entry) : Type 0 where
   pub events : map (λ e. e .event) es ≡ allRecords uses
   pub lines : map (λ e. answerLine (e .answer)) es ≡ allLines uses
 
--- from whatever was lent
+-- demand 3, from whatever was lent
 abbrev pub UsesDemand3 : Type 0
 UsesDemand3 = (x : Lent) (uses : List Use) → Uses x uses → (es : List Entry) → ReadFrom uses es → Served (stateIn x) es
+
+-- demand 2, the totals, from whatever was lent and is not refused: the ledger of the records and lines, which goes on from what the given rows hold
+abbrev pub UsesTotals : Type 0
+UsesTotals =
+    (x : Lent) (uses : List Use) → Uses x uses → refusedIn x ≡ 0 → (es : List Entry) → ReadFrom uses es → (p : ℕ) → p < stateIn x .settings .count →
+    used (stateIn (leftAfter x uses)) p
+    ≡ sum (take (W (stateIn x .settings)) (ledger p (lastIn (stateIn x)) (periodsIn (stateIn x) (x .history) p) es))
+
+-- the records that were accepted
+abbrev pub acceptedIn : List Entry → List (List ℕ)
+acceptedIn es = map (λ e. e .event) (keep accepted es)
+
+-- demand 2, the account: the start door took the sheet, lent x, and left y; and then the two doors were used. What they left at the end is that of
+-- the account of the accepted records, and every decision in their lines is the account's
+pub record AccountOf (x : Lent) (sheet : List ℕ) (last : Saved) (es : List Entry) : Type 0 where
+  pub state : Accounted (settingsOf sheet) (x .history) (reverse (acceptedIn es)) last
+  pub answers : map (λ e. e .answer .decision) (keep accepted es) ≡ decisionsFrom (settingsOf sheet) [] (acceptedIn es)
+
+abbrev pub UsesAccount : Type 0
+UsesAccount =
+    (x : Lent) (sheet : List ℕ) (y : Lent) (uses : List Use) → Begun x sheet 0 y → Uses y uses → (es : List Entry) → ReadFrom uses es →
+    AccountOf x sheet (savedIn (leftAfter y uses)) es
