@@ -1,60 +1,67 @@
 -- Refusals that the definitions compute, alone and two at a time: the first in the paper's order is the number. "Order: 1 to 6 for a sheet; then 7,
 -- 8, 14, 9, 10, 11, 12, 13. But a state whose own settings are outside their limits gives 8 before 7". And what the doors answer that decide nothing.
 use Prim.Native.Nat.{ℕ}
-use mathlib.Core.Path.{_≡_, refl}
+use mathlib.Core.Bool.{Bool}
 use mathlib.Core.List.{List, [], _∷_, _++_, map}
-use lib.ListN.{set, take, drop, replicate}
-use lib.IntN.{ℤ, pos, negsuc}
+use lib.ListN.{set, take, replicate}
+use lib.Dec.{eqb}
+use lib.IntN.{ℤ, pos}
+use Rattle.lists.specs.Lists.{all}
 use Rattle.sheet.specs.Sheet.{sheetOf, refusedWrite, lengthWritten, bufferWritten}
 use Rattle.model.specs.State.{State}
 use Rattle.model.specs.Event.{refusedState, refusedEvent, refused}
 use Rattle.model.specs.Step.{Saved, saved, withUsed, withThread, created, joins}
 use Rattle.model.specs.Run.{freshState}
-use Rattle.model.specs.Answers.{Line, Remainder}
+use Rattle.model.specs.Answers.{Remainder}
 use Rattle.model.specs.Lent.{Lent}
-use Rattle.model.specs.Doors.{refusedStart, decision}
-use Rattle.cases.specs.Written.{kit, halves, event, tick, create, createOn, ready, block, setPriority, end, resume, line, refusal}
-use Rattle.cases.specs.Computed.{sheetNumber, lines, remains}
+use Rattle.model.specs.Doors.{refusedStart}
+use Rattle.cases.specs.Written.{kit, halves, event, tick, create, createOn, ready, block, setPriority, end, resume}
+use Rattle.cases.specs.Computed.{sheetNumber}
 
 infix 70 _is_
 -- a number that is computed, and what the paper says
-record Number : Type 0 where
-  computed : ℕ
-  paper : ℕ
+pub record Number : Type 0 where
+  pub computed : ℕ
+  pub paper : ℕ
 
-abbrev _is_ : ℕ → ℕ → Number
+abbrev pub _is_ : ℕ → ℕ → Number
 a is b = record { computed = a; paper = b }
 
-abbrev computedOf : List Number → List ℕ
+abbrev pub computedOf : List Number → List ℕ
 computedOf l = map (λ n. n .computed) l
 
-abbrev papersOf : List Number → List ℕ
+abbrev pub papersOf : List Number → List ℕ
 papersOf l = map (λ n. n .paper) l
+
+abbrev pub agree : List Number → Bool
+agree l = all (λ n. eqb (n .computed) (n .paper)) l
 
 -- ---- events
 
 -- thread 0 is ready, thread 1 exists and is not
-abbrev begun : State
+abbrev pub begun : State
 begun = joins (withThread (withThread (freshState (halves 2)) 0 (created 0 10 1)) 1 (created 1 20 1)) 0
 
 -- the number by which an event is refused there, or 0
-abbrev door : List ℕ → ℕ
+abbrev pub door : List ℕ → ℕ
 door b = refusedEvent begun b
 
 -- and by which it is refused on any state, beside any history
-abbrev on : Saved → List ℕ → ℕ
+abbrev pub on : Saved → List ℕ → ℕ
 on v b = refused (v .state) (v .history) b
 
--- one of each kind that is accepted
-abbrev each : List (List ℕ)
-each = tick 0 ∷ create 2 1 255 0 ∷ ready 1 0 ∷ block 0 0 ∷ setPriority 0 255 0 ∷ end 1 0 ∷ resume 0 ∷ []
+-- one of each kind, which is accepted
+abbrev pub kinds : List Number
+kinds =
+    door (tick 0) is 0 ∷ door (create 2 1 255 0) is 0 ∷ door (ready 1 0) is 0 ∷ door (block 0 0) is 0 ∷ door (setPriority 0 255 0) is 0
+    ∷ door (end 1 0) is 0 ∷ door (resume 0) is 0 ∷ []
 
 -- the event with a 1 in each of these bytes, one at a time
-abbrev spoilt : List ℕ → List ℕ → List ℕ
-spoilt b places = map (λ i. door (set b i 1)) places
+abbrev pub spoilt : List ℕ → List ℕ → List Number
+spoilt b places = map (λ i. door (set b i 1) is 9) places
 
 -- "Bytes that a kind doesn't use are zero": all forty of them
-abbrev reserved : List ℕ
+abbrev pub reserved : List Number
 reserved =
     spoilt (tick 0) (1 ∷ 2 ∷ 3 ∷ 8 ∷ 9 ∷ 10 ∷ 11 ∷ []) ++ (spoilt (create 2 1 10 0) (9 ∷ 10 ∷ 11 ∷ [])
     ++ (spoilt (ready 1 0) (2 ∷ 3 ∷ 8 ∷ 9 ∷ 10 ∷ 11 ∷ []) ++ (spoilt (block 0 0) (2 ∷ 3 ∷ 8 ∷ 9 ∷ 10 ∷ 11 ∷ [])
@@ -62,28 +69,28 @@ reserved =
     ++ spoilt (resume 0) (1 ∷ 2 ∷ 3 ∷ 8 ∷ 9 ∷ 10 ∷ 11 ∷ []))))))
 
 -- a window of 1, beside no history at all
-abbrev wrongSettings : Saved
+abbrev pub wrongSettings : Saved
 wrongSettings = saved (freshState (halves 1)) []
 
 -- a total that is not its row's sum, beside a history of so many numbers; four are wanted
-abbrev unsound : ℕ → Saved
+abbrev pub unsound : ℕ → Saved
 unsound n = saved (withUsed (freshState (halves 2)) (record { 0 = 1 } ∷ replicate 15 (record { 0 = 0 }))) (replicate n 0)
 
-abbrev short : Saved
+abbrev pub short : Saved
 short = saved (freshState (halves 2)) (replicate 3 0)
 
 -- eleven of the bytes
-abbrev cut : List ℕ → List ℕ
+abbrev pub cut : List ℕ → List ℕ
 cut b = take 11 b
 
 -- 8 of the settings before 7; 7 before 8; 7 and 8 before 14
-abbrev states : List Number
+abbrev pub states : List Number
 states =
     refusedState begun (replicate 4 0) is 0 ∷ on short (tick 0) is 7 ∷ on (unsound 4) (tick 0) is 8 ∷ on wrongSettings (tick 0) is 8
     ∷ on (unsound 3) (tick 0) is 7 ∷ on short (cut (tick 0)) is 7 ∷ on (unsound 4) (cut (tick 0)) is 8
     ∷ []
 
-abbrev events : List Number
+abbrev pub events : List Number
 events =
     -- each alone
     door (cut (tick 0)) is 14 ∷ door (tick 0 ++ (0 ∷ [])) is 14 ∷ door [] is 14
@@ -104,13 +111,13 @@ events =
 -- ---- sheets
 
 -- a sheet with another byte at a place. Record i has its letter at place 12 × i
-abbrev with : List ℕ → ℕ → ℕ → List ℕ
+abbrev pub with : List ℕ → ℕ → ℕ → List ℕ
 with bytes i b = set bytes i b
 
-abbrev whole : List ℕ
+abbrev pub whole : List ℕ
 whole = sheetOf (kit 4 1000 0 0 (95 ∷ 5 ∷ []))
 
-abbrev sheets : List Number
+abbrev pub sheets : List Number
 sheets =
     -- each alone: 59 bytes; 4 and 21 records; a letter, a space, a line feed, a two-digit number; `S 01 0000,5`
     sheetNumber whole is 0 ∷ sheetNumber (take 59 whole) is 1 ∷ sheetNumber [] is 1 ∷ sheetNumber (take 48 whole) is 1
@@ -133,17 +140,17 @@ sheets =
     ∷ []
 
 -- a sheet of 72 bytes, written into 74
-abbrev buffer : List ℕ
+abbrev pub buffer : List ℕ
 buffer = bufferWritten (halves 2) (replicate 74 7)
 
 -- ---- the doors of remaining and decision
 
-abbrev zeros : ℕ → List ℕ
+abbrev pub zeros : ℕ → List ℕ
 zeros n = replicate n 0
 
 -- what is lent for two halves of W 2, C 1000, one thread (0, in partition 0, on core 0), the flag of which is given, and no more; partition 0 was
 -- charged x since the last tick
-abbrev lent : ℕ → ℕ → List ℕ → Lent
+abbrev pub lent : ℕ → ℕ → List ℕ → Lent
 lent flag x history =
     record {
       settings = 2 ∷ 1000 ∷ 0 ∷ 0 ∷ 2 ∷ [];
@@ -159,57 +166,8 @@ lent flag x history =
       history = history;
     }
 
-abbrev left : ℤ → Remainder
+abbrev pub left : ℤ → Remainder
 left z = record { refusal = 0; remaining = z }
 
-abbrev none : ℕ → Remainder
+abbrev pub none : ℕ → Remainder
 none n = record { refusal = n; remaining = pos 0 }
-
--- ---- all of it as the paper says
-
-kinds : map door each ≡ zeros 7
-unfolding lines
-kinds = refl
-
-unused : reserved ≡ replicate 40 9
-unfolding lines
-unused = refl
-
-refused-states : computedOf states ≡ papersOf states
-unfolding lines
-refused-states = refl
-
-refused-events : computedOf events ≡ papersOf events
-unfolding lines
-refused-events = refl
-
-refused-sheets : computedOf sheets ≡ papersOf sheets
-unfolding remains
-refused-sheets = refl
-
--- `W 00 000002`, `S 01 000050`, and what was there before
-first-record : take 12 buffer ≡ 87 ∷ 32 ∷ 48 ∷ 48 ∷ 32 ∷ 48 ∷ 48 ∷ 48 ∷ 48 ∷ 48 ∷ 50 ∷ 10 ∷ []
-unfolding lines
-first-record = refl
-
-last-record : drop 60 buffer ≡ 83 ∷ 32 ∷ 48 ∷ 49 ∷ 32 ∷ 48 ∷ 48 ∷ 48 ∷ 48 ∷ 53 ∷ 48 ∷ 10 ∷ 7 ∷ 7 ∷ []
-unfolding lines
-last-record = refl
-
--- 995 of 1000 remain; partition 1 has all; there is no partition 2; 500 too many were used
-remain : map (remains (lent 1 5 (5 ∷ zeros 3))) (0 ∷ 1 ∷ 2 ∷ []) ≡ left (pos 995) ∷ left (pos 1000) ∷ none 12 ∷ []
-unfolding remains
-remain = refl
-
-overrun : remains (lent 1 1500 (1500 ∷ zeros 3)) 0 ≡ left (negsuc 499)
-unfolding remains
-overrun = refl
-
--- 7 and 8 before 12: a history too short, a total that is not its row's sum, a flag that is neither 0 nor 1
-refused-remaining : map (λ x. remains x 2) (lent 1 5 (5 ∷ zeros 2) ∷ lent 1 5 (zeros 4) ∷ lent 2 5 (5 ∷ zeros 3) ∷ []) ≡ none 7 ∷ none 8 ∷ none 8 ∷ []
-unfolding remains
-refused-remaining = refl
-
-decisions : map decision (lent 1 5 (5 ∷ zeros 3) ∷ lent 1 5 (5 ∷ zeros 2) ∷ lent 2 5 (5 ∷ zeros 3) ∷ []) ≡ line 0 1 0 0 ∷ refusal 7 ∷ refusal 8 ∷ []
-unfolding remains
-decisions = refl
