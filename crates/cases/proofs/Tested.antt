@@ -1,13 +1,13 @@
 -- THE TESTS: the runs of Runs give their lines, and the numbers of Refusals are the paper's, by computation.
 use mathlib.Core.Path.{_≡_, refl}
-use mathlib.Core.List.{List, [], _∷_, map}
+use mathlib.Core.List.{[], _∷_, map}
 use lib.ListN.{take, drop}
 use lib.IntN.{pos, negsuc}
 use Rattle.model.specs.Doors.{decision}
 use Rattle.cases.specs.Written.{line, refusal}
 use Rattle.cases.specs.Computed.{lines, remains}
 use Rattle.cases.specs.Runs.{computed, expected, runs}
-use Rattle.cases.specs.Refusals.{computedOf, papersOf, kinds, reserved, states, events, sheets, buffer, zeros, lent, left, none}
+use Rattle.cases.specs.Refusals.{computedOf, papersOf, kinds, reserved, states, soundness, events, sheets, doors, buffer, zeros, lent, left, none}
 
 every-run : map computed runs ≡ map expected runs
 unfolding lines
@@ -24,6 +24,10 @@ every-reserved-byte = refl
 every-state : computedOf states ≡ papersOf states
 unfolding lines
 every-state = refl
+
+every-clause : computedOf soundness ≡ papersOf soundness
+unfolding lines
+every-clause = refl
 
 every-event : computedOf events ≡ papersOf events
 unfolding lines
@@ -51,12 +55,11 @@ overrun : remains (lent 1 1500 (1500 ∷ zeros 3)) 0 ≡ left (negsuc 499)
 unfolding remains
 overrun = refl
 
--- 7 and 8 before 12: a history too short, a total that is not its row's sum, a flag that is neither 0 nor 1
-no-remaining : map (λ x. remains x 2) (lent 1 5 (5 ∷ zeros 2) ∷ lent 1 5 (zeros 4) ∷ lent 2 5 (5 ∷ zeros 3) ∷ []) ≡ none 7 ∷ none 8 ∷ none 8 ∷ []
+every-door : computedOf doors ≡ papersOf doors
 unfolding remains
-no-remaining = refl
+every-door = refl
 
--- the decision door, for the same
+-- the decision door
 decisions : map decision (lent 1 5 (5 ∷ zeros 3) ∷ lent 1 5 (5 ∷ zeros 2) ∷ lent 2 5 (5 ∷ zeros 3) ∷ []) ≡ line 0 1 0 0 ∷ refusal 7 ∷ refusal 8 ∷ []
 unfolding remains
 decisions = refl

@@ -1,22 +1,23 @@
 -- Refusals that the definitions compute, alone and two at a time: the first in the paper's order is the number. "Order: 1 to 6 for a sheet; then 7,
 -- 8, 14, 9, 10, 11, 12, 13. But a state whose own settings are outside their limits gives 8 before 7". And what the doors answer that decide nothing.
 use Prim.Native.Nat.{ℕ}
-use mathlib.Core.Bool.{Bool}
+use mathlib.Core.Bool.{Bool, true, false}
 use mathlib.Core.List.{List, [], _∷_, _++_, map}
 use lib.ListN.{set, take, replicate}
 use lib.Dec.{eqb}
 use lib.IntN.{ℤ, pos}
 use Rattle.lists.specs.Lists.{all}
 use Rattle.sheet.specs.Sheet.{sheetOf, refusedWrite, lengthWritten, bufferWritten}
-use Rattle.model.specs.State.{State}
+use Rattle.sheet.specs.declared.Settings.{Settings}
+use Rattle.model.specs.State.{State, Thread, cycles}
 use Rattle.model.specs.Event.{refusedState, refusedEvent, refused}
-use Rattle.model.specs.Step.{Saved, saved, withUsed, withThread, created, joins}
+use Rattle.model.specs.Step.{Saved, saved, withClock, withUsed, withThread, withQueue, withRunning, created, joins}
 use Rattle.model.specs.Run.{freshState}
 use Rattle.model.specs.Answers.{Remainder}
 use Rattle.model.specs.Lent.{Lent}
 use Rattle.model.specs.Doors.{refusedStart}
-use Rattle.cases.specs.Written.{kit, halves, event, tick, create, createOn, ready, block, setPriority, end, resume}
-use Rattle.cases.specs.Computed.{sheetNumber}
+use Rattle.cases.specs.Written.{percents, kit, halves, event, tick, create, createOn, ready, block, setPriority, end, resume}
+use Rattle.cases.specs.Computed.{sheetNumber, remains}
 
 infix 70 _is_
 -- a number that is computed, and what the paper says
@@ -89,6 +90,80 @@ states =
     refusedState begun (replicate 4 0) is 0 ∷ on short (tick 0) is 7 ∷ on (unsound 4) (tick 0) is 8 ∷ on wrongSettings (tick 0) is 8
     ∷ on (unsound 3) (tick 0) is 7 ∷ on short (cut (tick 0)) is 7 ∷ on (unsound 4) (cut (tick 0)) is 8
     ∷ []
+
+-- ---- "Sound means": a state for each clause that is on the wrong side of it, and some on the right side
+
+-- the number by which a state is refused beside two rows of two numbers
+abbrev pub state : State → List ℕ → ℕ
+state s h = refusedState s h
+
+abbrev pub still : List ℕ
+still = replicate 4 0
+
+-- the totals of the first partitions
+abbrev pub totals : List ℕ → State → State
+totals ns s = withUsed s (take 16 (map cycles ns ++ replicate 16 (cycles 0)))
+
+-- the whole array of the ready queue, of which one place is used
+abbrev pub places : List ℕ → State → State
+places q s =
+    record {
+      settings = s .settings;
+      used = s .used;
+      stamp = s .stamp;
+      slot = s .slot;
+      since = s .since;
+      threads = s .threads;
+      queue = q;
+      queued = 1;
+      running = s .running;
+    }
+
+-- a record of a thread that does not exist
+abbrev pub gone : Bool → ℕ → ℕ → ℕ → Thread
+gone on p n m = record { exists = false; ready = on; partition = p; priority = n; mask = m }
+
+-- three shares, of which two count
+abbrev pub third : Settings
+third =
+    record {
+      window = record { 0 = 2 };
+      tick = record { 0 = 1000 };
+      policy = 0;
+      core = 0;
+      count = 2;
+      shares = percents (50 ∷ 50 ∷ 1 ∷ []);
+    }
+
+abbrev pub soundness : List Number
+soundness =
+    -- slot below W; time since tick at most 2 × C
+    state (withClock begun 0 1 0) still is 0 ∷ state (withClock begun 0 2 0) still is 8
+    ∷ state (withClock begun 0 0 2000) still is 0 ∷ state (withClock begun 0 0 2001) still is 8
+    -- each total equal to its row's sum
+    ∷ state (totals (0 ∷ 1000 ∷ []) begun) (0 ∷ 0 ∷ 0 ∷ 1000 ∷ []) is 0 ∷ state (totals (1000 ∷ []) begun) (0 ∷ 0 ∷ 0 ∷ 1000 ∷ []) is 8
+    -- each slot's sum over partitions at most 2 × C
+    ∷ state (totals (1000 ∷ 1000 ∷ []) begun) (0 ∷ 1000 ∷ 0 ∷ 1000 ∷ []) is 0 ∷ state (totals (1000 ∷ 1001 ∷ []) begun) (0 ∷ 1000 ∷ 0 ∷ 1001 ∷ []) is 8
+    -- the current slot's at most the time since tick
+    ∷ state (withClock (totals (5 ∷ 5 ∷ []) begun) 0 0 10) (5 ∷ 0 ∷ 5 ∷ 0 ∷ []) is 0
+    ∷ state (withClock (totals (5 ∷ 5 ∷ []) begun) 0 0 9) (5 ∷ 0 ∷ 5 ∷ 0 ∷ []) is 8
+    -- existing threads with a valid partition and a mask other than 0
+    ∷ state (withThread begun 2 (created 1 0 255)) still is 0 ∷ state (withThread begun 2 (created 2 0 255)) still is 8
+    ∷ state (withThread begun 2 (created 1 0 0)) still is 8
+    -- the line without repeats, and holding exactly the ready threads, all existing
+    ∷ state (withQueue begun (0 ∷ 0 ∷ [])) still is 8 ∷ state (withQueue begun (0 ∷ 1 ∷ [])) still is 8 ∷ state (withQueue begun []) still is 8
+    ∷ state (withQueue begun (0 ∷ 64 ∷ [])) still is 8 ∷ state (withQueue (withThread begun 2 (gone true 0 0 0)) (0 ∷ 2 ∷ [])) still is 8
+    -- unused places of the line, records of absent threads, and shares and totals past the last partition all zero
+    ∷ state (places (0 ∷ replicate 63 0) begun) still is 0 ∷ state (places (0 ∷ replicate 62 0 ++ (1 ∷ [])) begun) still is 8
+    ∷ state (withThread begun 63 (gone false 1 0 0)) still is 8 ∷ state (withThread begun 63 (gone false 0 1 0)) still is 8
+    ∷ state (withThread begun 63 (gone false 0 0 1)) still is 8 ∷ state (freshState third) still is 8
+    ∷ state (totals (0 ∷ 0 ∷ 1 ∷ []) begun) still is 8
+    -- the running one idle, or in the line and allowed
+    ∷ state (withRunning begun 0) still is 0 ∷ state (withRunning begun 1) still is 8 ∷ state (withRunning begun 254) still is 8
+    ∷ state (withRunning (joins (withThread begun 2 (created 1 0 2)) 2) 2) still is 8
+    ∷ []
+
+-- ---- events
 
 abbrev pub events : List Number
 events =
@@ -171,3 +246,11 @@ left z = record { refusal = 0; remaining = z }
 
 abbrev pub none : ℕ → Remainder
 none n = record { refusal = n; remaining = pos 0 }
+
+-- 7 and 8 before 12: a history too short, a total that is not its row's sum, a flag that is neither 0 nor 1
+abbrev pub doors : List Number
+doors =
+    remains (lent 1 5 (5 ∷ zeros 3)) 1 .refusal is 0 ∷ remains (lent 1 5 (5 ∷ zeros 3)) 2 .refusal is 12
+    ∷ remains (lent 1 5 (5 ∷ zeros 2)) 2 .refusal is 7 ∷ remains (lent 1 5 (zeros 4)) 2 .refusal is 8
+    ∷ remains (lent 2 5 (5 ∷ zeros 3)) 2 .refusal is 8
+    ∷ []
