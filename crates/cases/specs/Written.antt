@@ -1,0 +1,58 @@
+-- How sheets, events, states and lines are written down in this crate.
+use Prim.Native.Nat.{ℕ, _/_, _%_}
+use mathlib.Core.List.{List, [], _∷_, _++_, map}
+use lib.ListN.{length, take, replicate}
+use Rattle.units.specs.declared.Percent.{Percent}
+use Rattle.sheet.specs.declared.Settings.{Settings}
+use Rattle.model.specs.Answers.{Line}
+
+abbrev pub percents : List ℕ → List Percent
+percents ns = take 16 (map (λ n. record { 0 = n }) ns ++ replicate 16 (record { 0 = 0 }))
+
+-- settings: W, C, P, M and the shares
+abbrev pub kit : ℕ → ℕ → ℕ → ℕ → List ℕ → Settings
+kit w c policy core shares =
+    record { window = record { 0 = w }; tick = record { 0 = c }; policy = policy; core = core; count = length shares; shares = percents shares }
+
+-- a tick of 1000 cycles, policy 0, core 0, two partitions with half the processor each
+abbrev pub halves : ℕ → Settings
+halves w = kit w 1000 0 0 (50 ∷ 50 ∷ [])
+
+-- ---- events: kind, thread, partition, priority, stamp, mask
+
+abbrev pub event : ℕ → ℕ → ℕ → ℕ → ℕ → ℕ → List ℕ
+event k t p n stamp m =
+    k ∷ t ∷ p ∷ n ∷ (stamp % 256) ∷ (stamp / 256 % 256) ∷ (stamp / 65536 % 256) ∷ (stamp / 16777216) ∷ m ∷ 0 ∷ 0 ∷ 0 ∷ []
+
+abbrev pub tick : ℕ → List ℕ
+tick stamp = event 1 0 0 0 stamp 0
+
+-- with this run mask; and on core 0 alone
+abbrev pub createOn : ℕ → ℕ → ℕ → ℕ → ℕ → List ℕ
+createOn mask t p n stamp = event 2 t p n stamp mask
+
+abbrev pub create : ℕ → ℕ → ℕ → ℕ → List ℕ
+create t p n stamp = createOn 1 t p n stamp
+
+abbrev pub ready : ℕ → ℕ → List ℕ
+ready t stamp = event 3 t 0 0 stamp 0
+
+abbrev pub block : ℕ → ℕ → List ℕ
+block t stamp = event 4 t 0 0 stamp 0
+
+abbrev pub setPriority : ℕ → ℕ → ℕ → List ℕ
+setPriority t n stamp = event 5 t 0 n stamp 0
+
+abbrev pub end : ℕ → ℕ → List ℕ
+end t stamp = event 6 t 0 0 stamp 0
+
+abbrev pub resume : ℕ → List ℕ
+resume stamp = event 7 0 0 0 stamp 0
+
+-- ---- lines
+
+abbrev pub line : ℕ → ℕ → ℕ → ℕ → Line
+line r m p t = record { refusal = r; mode = m; partition = p; thread = t }
+
+abbrev pub refusal : ℕ → Line
+refusal n = line n 0 0 0
