@@ -14,6 +14,7 @@ use Rattle.model.specs.Event.{refusedState, refusedEvent, refused}
 use Rattle.model.specs.Step.{Saved, saved, withClock, withUsed, withThread, withQueue, withRunning, created, joins}
 use Rattle.model.specs.Run.{freshState}
 use Rattle.model.specs.Answers.{Remainder}
+use Rattle.model.specs.Arrays.{columns}
 use Rattle.model.specs.Lent.{Lent}
 use Rattle.model.specs.Doors.{refusedStart}
 use Rattle.cases.specs.Written.{percents, kit, halves, event, tick, create, createOn, ready, block, setPriority, end, resume}
@@ -232,11 +233,7 @@ lent flag x history =
       shares = 50 ∷ 50 ∷ zeros 14;
       used = x ∷ zeros 15;
       clock = x ∷ 0 ∷ x ∷ 1 ∷ 0 ∷ [];
-      exists = flag ∷ zeros 63;
-      ready = 1 ∷ zeros 63;
-      partitions = zeros 64;
-      priorities = 10 ∷ zeros 63;
-      masks = 1 ∷ zeros 63;
+      threads = columns (flag ∷ zeros 63) (1 ∷ zeros 63) (zeros 64) (10 ∷ zeros 63) (1 ∷ zeros 63);
       queue = zeros 64;
       history = history;
     }
