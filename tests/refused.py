@@ -2,17 +2,19 @@
 """Each fault that must be refused was refused where it must be, and because a fact no longer holds.
 
 Reads what the prover said of the edits, target/must-fail/CRATE/EDIT/.log, after `rt ci` or `rt must-fail`. It refuses an edit for any error at
-all; this asks for an error in the proof that the edit names, and that the first one there is about a fact. That a name or a step of the proof is
-gone, or that something else is not proved, shows nothing. Where a function has no proof file, the prover's own line about it has to say that it
-finds no proof of what the function ensures.
+all; this asks for an error in the proof that the edit names, at the claim that it names or at the first one there, and that it is about a fact.
+That a name or a step of the proof is gone, or that something else is not proved, shows nothing. Where a function has no proof file, the prover's
+own line about it has to say that it finds no proof of what the function ensures.
 """
 import re
 import sys
 
 from edits import ROOT, faults
 
-ERROR = re.compile(r"^(\S+?):\d+:\d+: error: (.*)", re.M)
-SHOWS_NOTHING = re.compile(r"has no `|has no field|no occurrence|was not admitted")
+# an error's file, the claim of the proof that it is about, if it says one, and all that it says
+ERROR = re.compile(r"^(\S+?):\d+:\d+: error: (?:`([^`]*)`: )?(.*(?:\n  .*)*)", re.M)
+# a name or a step of the proof is gone or stands elsewhere, or a proof is of another form: none of that is about a fact
+SHOWS_NOTHING = re.compile(r"has no\s+(`|field)|no occurrence|was not admitted|expected type `tie\.|a dimension \(")
 
 
 def wrong(fault):
@@ -26,10 +28,10 @@ def wrong(fault):
             return None if none else f"nothing is said of {fault.breaks}"
     else:
         place = fault.breaks
-    for file, text in ERROR.findall(log):
-        if file == str(folder / place):
-            return f"the first error of {place} shows nothing: {text[:200]}" if SHOWS_NOTHING.search(text) else None
-    return f"no error in {place}"
+    for file, claim, text in ERROR.findall(log):
+        if file == str(folder / place) and fault.claim in ("", claim):
+            return f"the first error of {place} shows nothing: {claim}: {text[:200]}" if SHOWS_NOTHING.search(text) else None
+    return f"no error in {place} {fault.claim}"
 
 
 def main():

@@ -192,22 +192,24 @@ impl Comparison {
         Ok(())
     }
 
-    /// A start, with enough history and with too little.
+    /// A start: with as much history as it wants, with more, with too little.
     fn start(&mut self, case: &Case, second: Option<&Scheduler>) -> Checked {
         let mut sheet = case.sheet.clone();
         let rows = second.map_or(0, |second| states::wanted(second.settings()));
-        let mut found = Saved::filled(OLD_BYTE, rows + BEHIND);
-        let mut wanted = found.clone();
-        let told = match second {
-            Some(second) => {
-                wanted.set(second);
-                0
-            }
+        let told: u32 = match second {
+            Some(_) => 0,
             None => read_sheet(&sheet).err().unwrap_or(0).into(),
         };
-        let refusal = self.fenced.start(&mut sheet, &mut found);
-        same("start", &told, &refusal)?;
-        same_saved("a start", &wanted, &found)?;
+        for behind in [0, BEHIND] {
+            let mut found = Saved::filled(OLD_BYTE, rows + behind);
+            let mut wanted = found.clone();
+            if let Some(second) = second {
+                wanted.set(second);
+            }
+            let refusal = self.fenced.start(&mut sheet, &mut found);
+            same("start", &told, &refusal)?;
+            same_saved("a start", &wanted, &found)?;
+        }
         if second.is_some() {
             // One number too few, or any number of them.
             let any = self.below(rows);
