@@ -5,8 +5,9 @@
  *     cc -std=c11 -O2 kernel.c $(pkg-config --cflags --libs saplingloft)
  *     cc -std=c11 -O2 -Iinclude kernel.c target/staticlib/libsaplingloft.a
  *
- * Target: the archive is for x86-64 Linux. The interface is alike on every processor: the library's own functions, at the end, take pointers to
- * arrays of numbers, numbers of 32 bits and lengths of 64, and answer a number of 32 bits.
+ * Target: the archive is for x86-64 Linux; `make board` makes archives for Cortex-M, RISC-V and AArch64. The interface is alike on every processor
+ * whose low byte comes first: the library's own functions, at the end, take pointers to arrays of numbers, numbers of 32 bits and lengths of 64, and
+ * answer a number of 32 bits.
  *
  * Memory: the library keeps nothing and allocates nothing. What there is, the caller keeps, and lends to each call, which works on it where it lies:
  * - the state, a struct saplingloft_state;
@@ -16,9 +17,9 @@
  * Both together can be written to a file and read back later. Beside them a file has to hold SAPLINGLOFT_VERSION and the state's size, because the
  * state itself tells neither; examples/embed.c shows it. Numbers lie in it as the processor has them, so a file is for processors of one byte order.
  *
- * Sizes: the state has 552 bytes, the history 4 * count * window, which is at most 25,600. Of code the archive for x86-64 has 21 KB, 8 KB of them for
+ * Sizes: the state has 552 bytes, the history 4 * count * window, which is at most 25,600. Of code the archive for x86-64 has 22 KB, 9 KB of them for
  * saplingloft_run alone, which a program that makes no runs does not link. A call there takes at most SAPLINGLOFT_STACK bytes of stack, as
- * tools/stack.c measures them.
+ * tools/stack.c measures them; `make board` prints these figures for other processors.
  *
  * Refusals: no call asks anything of the numbers that it is given. Whatever the state, the history, the sheet and the event say, it does its work or
  * answers with the number of a refusal, and a refused call leaves everything that it was lent as it was. What a call does ask for is this:
