@@ -20,7 +20,7 @@ from edited import ROOT, Crate, Edit, modules, name_of, reached, uses  # noqa: E
 STATEMENTS = ["invariants", "guarantee", "sessions"]
 
 # the crates that the copies stand on; of others every file that is looked at is copied
-BELOW = ["lists", "refusals", "units", "sheet", "model", "invariants", "guarantee", "cases"]
+BELOW = ["lists", "refusals", "units", "sheet", "model", "invariants", "guarantee", "lines", "cases"]
 
 # what every refutation starts with
 HEAD = """use Prim.Native.Nat.{ℕ, suc, zero, _+_, _-_, _*_, _^_, _≤_, _<_}
