@@ -5,6 +5,7 @@ That an edit is refused may only say that a proof follows the text. So for each 
 statements, the checker also proves that it is wrong: of a faulty definition, that a run or a number of crate `cases` is another than the paper says (the
 line `shown:` of the edit names it); of a faulty statement, that it is false, by a run that is computed (LABEL.refuted, beside the edit). All that an
 edit reaches is copied into one crate, which must be proved whole. In a second crate, of the same proofs on the files as they are, every proof must fail.
+Every promise, a field of `Promised`, must have such a fault of its own.
 
     tests/refuted.py [LABEL ..]    all of them, or the named ones
 """
@@ -20,7 +21,7 @@ from edited import ROOT, Crate, Edit, modules, name_of, reached, uses  # noqa: E
 STATEMENTS = ["invariants", "guarantee", "sessions"]
 
 # the crates that the copies stand on; of others every file that is looked at is copied
-BELOW = ["lists", "refusals", "units", "sheet", "model", "invariants", "guarantee", "cases"]
+BELOW = ["lists", "refusals", "units", "sheet", "model", "invariants", "guarantee", "lines", "cases"]
 
 # what every refutation starts with
 HEAD = """use Prim.Native.Nat.{ℕ, suc, zero, _+_, _-_, _*_, _^_, _≤_, _<_}
@@ -124,11 +125,11 @@ def main():
                 wrong.setdefault(edit.label, "what shows the fault wrong is proved without the fault too")
     for label, why in wrong.items():
         print(f"refuted: {label}: {why}")
+    without = [] if sys.argv[1:] else [field for field, name in stated.items() if name not in refuted]
     if not sys.argv[1:]:
-        without = [field for field, name in stated.items() if name not in refuted]
         print("refuted: promises with no fault of their own: " + (", ".join(without) or "none"))
     print(f"refuted: {len(edits) - len(wrong)} of {len(edits)} faulty definitions and statements are shown to be wrong")
-    sys.exit(bool(wrong))
+    sys.exit(bool(wrong or without))
 
 
 if __name__ == "__main__":
