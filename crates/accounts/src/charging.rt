@@ -41,7 +41,7 @@ pub fn charge(
     let total = units::plus(Cycles(used[p]), amount);
     used[p] = total.0;
     let window = settings.window;
-    history::charge(history, window, payer, slot, amount);
+    history::charge_slot(history, window, payer, slot, amount);
     Clock {
         stamp: stamp,
         slot: slot,

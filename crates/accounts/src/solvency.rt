@@ -49,7 +49,7 @@ pub fn weigh_all(used: &[u32; 16], budgets: &[u32; 16], tick: Cycles, count: u32
 }
 
 // One slot of partition p's row is cleared, and its total lowered by what stood there. Where nothing stood, nothing is written.
-fn clear_row(
+fn clear_in_row(
     used: &mut [u32; 16],
     budgets: &[u32; 16],
     row: &mut [u32],
@@ -102,7 +102,7 @@ pub fn clear_slot(
     while (p as u32) < count {
         let start = (p as usize) * w;
         let end = start + w;
-        set = clear_row(used, budgets, &mut history[start..end], slot, tick, set, p);
+        set = clear_in_row(used, budgets, &mut history[start..end], slot, tick, set, p);
         p += 1;
     }
     set

@@ -8,7 +8,7 @@ use lib.Dec.{ltb, eqb}
 use Rattle.lists.specs.Lists.{below, any, keep, first, maximum}
 use Rattle.units.specs.Units.{remainingOf, hasBudgetOf, smallerFraction}
 use Rattle.sheet.specs.Settings.{C, budget}
-use Rattle.model.specs.State.{thread, queueOf, allows, idle, used, State}
+use Rattle.model.specs.State.{thread, queueOf, mayRun, idle, used, State}
 
 -- a decision in the paper's numbers
 pub record Decided : Type 0 where
@@ -20,8 +20,7 @@ pub record Decided : Type 0 where
 
 -- the queued threads of partition p that this core may run, in the queue's order
 unfoldable pub candidates : State → ℕ → List ℕ
-candidates s p =
-    keep (λ t. eqb (thread s t .partition) p && allows (thread s t .mask) (s .settings .core)) (queueOf s)
+candidates s p = keep (λ t. mayRun (thread s t .partition) (thread s t .mask) p (s .settings .core)) (queueOf s)
 
 -- "Competing: p has a thread in the line whose mask has this core's bit"
 unfoldable pub competing : State → ℕ → Bool

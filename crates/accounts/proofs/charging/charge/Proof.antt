@@ -53,8 +53,8 @@ mul-used c = omega (arith, known (c .before .before .before) .sixteen)
 element-write-used : tie.Need-element-write-used
 element-write-used c = known (c .before .before .before) .sixteen
 
-charge-requires : tie.Need-charge-requires
-charge-requires c κs =
+charge-slot-requires : tie.Need-charge-slot-requires
+charge-slot-requires c κs =
     let k = known (c .before .before .before .before .before) in
     (k .slot, k .row, k .number)
 
@@ -66,7 +66,7 @@ returns-2 c =
     let d = c .before .before .before .before .before .before .before .before in
     let a = start d .args in
     let e = d .before .before .before .before .elapsed in
-    pays-for (a .settings) (now (a .used)) (a .c) (now (a .partitions)) (now (a .history)) (a .stamp) (e .result .0) (e .ensures) (d .before .plus .result) (c .before .before .before .before .before .plus2 .result) (d .before .plus .ensures) (c .before .before .before .before .before .plus2 .ensures) _ (d .if1 .left) (known d .running) (c .before .before .charge .ensures)
+    pays-for (a .settings) (now (a .used)) (a .c) (now (a .partitions)) (now (a .history)) (a .stamp) (e .result .0) (e .ensures) (d .before .plus .result) (c .before .before .before .before .before .plus2 .result) (d .before .plus .ensures) (c .before .before .before .before .before .plus2 .ensures) _ (d .if1 .left) (known d .running) (c .before .before .charge-slot .ensures)
 
 pub charge-spec : {M : Type 1} → statement M
 charge-spec =
@@ -83,6 +83,6 @@ charge-spec =
     plus-requires-2
     mul-used
     element-write-used
-    charge-requires
+    charge-slot-requires
     same-length
     returns-2)

@@ -52,20 +52,20 @@ mul-start c = omega (arith, ends c)
 add-end : tie.Need-add-end Inv-loop μ-loop
 add-end c = omega (arith, ends c)
 
-mul-clear-row : tie.Need-mul-clear-row Inv-loop μ-loop
-mul-clear-row c = omega (arith, ends (c .before))
+mul-clear-in-row : tie.Need-mul-clear-in-row Inv-loop μ-loop
+mul-clear-in-row c = omega (arith, ends (c .before))
 
-sub-clear-row : tie.Need-sub-clear-row Inv-loop μ-loop
-sub-clear-row c = omega (arith, ends (c .before))
+sub-clear-in-row : tie.Need-sub-clear-in-row Inv-loop μ-loop
+sub-clear-in-row c = omega (arith, ends (c .before))
 
-part-clear-row-start : tie.Need-part-clear-row-start Inv-loop μ-loop
-part-clear-row-start c = omega (arith, ends (c .before))
+part-clear-in-row-start : tie.Need-part-clear-in-row-start Inv-loop μ-loop
+part-clear-in-row-start c = omega (arith, ends (c .before))
 
-part-clear-row-end : tie.Need-part-clear-row-end Inv-loop μ-loop
-part-clear-row-end c = omega (arith, ends (c .before))
+part-clear-in-row-end : tie.Need-part-clear-in-row-end Inv-loop μ-loop
+part-clear-in-row-end c = omega (arith, ends (c .before))
 
-clear-row-requires : tie.Need-clear-row-requires Inv-loop μ-loop
-clear-row-requires c κs =
+clear-in-row-requires : tie.Need-clear-in-row-requires Inv-loop μ-loop
+clear-in-row-requires c κs =
     let d = c .before .before in
     let start = d .before .before .before .before in
     let a = start .args in
@@ -91,7 +91,7 @@ loop-again c =
     let start = d .before .before .before .before in
     let a = start .args in
     let turn = d .before .loop in
-    let row = c .before .before .clear-row in
+    let row = c .before .before .clear-in-row in
     let at = turn .p * a .window .0 in
     let inside : a .slot .0 < at + a .window .0 - at = omega (arith, start .pre .1 .inside) in
     let back = ap (putMid at (at + a .window .0 - at) (turn .history)) (row .ensures .1) in
@@ -135,11 +135,11 @@ clear-slot-spec =
     cast-start
     mul-start
     add-end
-    mul-clear-row
-    sub-clear-row
-    part-clear-row-start
-    part-clear-row-end
-    clear-row-requires
+    mul-clear-in-row
+    sub-clear-in-row
+    part-clear-in-row-start
+    part-clear-in-row-end
+    clear-in-row-requires
     add-p
     loop-less
     loop-again

@@ -4,8 +4,8 @@ use denote.Ref.{now}
 use lib.ListN.{getD, set}
 use Rattle.accounts.proofs.SolvencyLaws.{nothing-held, nothing-there, reweighed-set}
 use borrow.Author.Needs.{needs}
-use Rattle.accounts.proofs.solvency.clear_row.Statement.{statement}
-use Rattle.accounts.proofs.solvency.clear_row.Tie as tie
+use Rattle.accounts.proofs.solvency.clear_in_row.Statement.{statement}
+use Rattle.accounts.proofs.solvency.clear_in_row.Tie as tie
 
 cast-k : tie.Need-cast-k
 cast-k c = search needs
@@ -65,8 +65,8 @@ returns-2 c =
           (start .pre .0) (start .pre .1) (c .weigh .ensures),
     )
 
-pub clear-row-spec : {M : Type 1} → statement M
-clear-row-spec =
+pub clear-in-row-spec : {M : Type 1} → statement M
+clear-in-row-spec =
     tie.close
     (tie.spec
     cast-k

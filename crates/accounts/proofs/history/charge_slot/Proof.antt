@@ -6,8 +6,8 @@ use denote.Ref.{now}
 use borrow.Rule.Slice.PartMut.{putMid}
 use Rattle.lists.proofs.Parts.{part-at, part-added}
 use borrow.Author.Needs.{needs}
-use Rattle.accounts.proofs.history.charge.Statement.{statement}
-use Rattle.accounts.proofs.history.charge.Tie as tie
+use Rattle.accounts.proofs.history.charge_slot.Statement.{statement}
+use Rattle.accounts.proofs.history.charge_slot.Tie as tie
 
 cast-w : tie.Need-cast-w
 cast-w c = search needs
@@ -53,8 +53,8 @@ returns c =
     ap (putMid at (at + w - at) (now (a .history))) (c .before .before .charge-row .ensures)
     ∙ part-added (now (a .history)) at (at + w - at) (a .slot .0) (a .amount .0) inside
 
-pub charge-spec : {M : Type 1} → statement M
-charge-spec =
+pub charge-slot-spec : {M : Type 1} → statement M
+charge-slot-spec =
     tie.close
     (tie.spec
     cast-w
