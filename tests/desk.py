@@ -109,7 +109,8 @@ def main():
             check(f"{count} events and {cut} bytes", run(desk, SHEET, stream), run(reference, SHEET, stream)[0])
 
     # each event is answered before the next one is sent, also where a piece cuts it; only the end of the input makes a cut one 14
-    pieces = [record(2, 0, 0, 0, 10, 1), record(3, 0, 0), record(1, 1000)[:5], record(1, 1000)[5:] + record(1, 2000)[:1], record(1, 2000)[1:], b"\x01\x02"]
+    first, second = record(1, 1000), record(1, 2000)
+    pieces = [record(2, 0, 0, 0, 10, 1), record(3, 0, 0), first[:5], first[5:] + second[:1], second[1:], b"\x01\x02"]
     runs_0 = b"00 1 00 000\n"
     expected = [b"00 0 00 255\n", runs_0, b"", runs_0, runs_0, b"", b"14 0 00 000\n"]
     tried += 1
