@@ -9,7 +9,7 @@ use lib.Seq.{ext-getD}
 use borrow.Author.Tests.{lt-ltb, le-ltb}
 use Rattle.lists.specs.Lists.{below}
 use Rattle.lists.proofs.All.{below-all}
-use Rattle.lists.proofs.Tables.{table-length, table-at}
+use Rattle.lists.proofs.Tables.{table-of, table-length, table-at}
 use Rattle.lists.proofs.Tests.{clash, and}
 use Rattle.refusals.specs.Refusals.{numberOf, outcomeOf}
 use Rattle.refusals.specs.declared.Outcome.{Outcome}
@@ -39,8 +39,7 @@ use Rattle.doors.specs.Inner.{Fresh}
 -- ---- the settings, stored and read back
 
 pub shares-back : (l : List Percent) → length l ≡ 16 → map (λ p. record { 0 = getD l p (record { 0 = 0 }) .0 }) (below 16) ≡ l
-shares-back l h =
-    ext-getD (record { 0 = 0 }) _ l (table-length _ 16 ∙ sym h) (λ i b. table-at _ 16 i (record { 0 = 0 }) (rw (table-length (λ (p : ℕ). getD l p (record { 0 = 0 })) 16) at b))
+shares-back l h = sym (table-of l 16 (record { 0 = 0 }) h)
 
 -- ---- no threads
 

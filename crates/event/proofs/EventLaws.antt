@@ -5,9 +5,10 @@ use mathlib.Core.Bool.{true, false, not, cond, _&&_, _||_}
 use mathlib.Core.List.{List, [], _∷_}
 use native.Mathlib.Omega.{arith}
 use lib.ListN.{length, getD}
-use lib.Seq.{ext-getD}
 use borrow.Author.Tests.{eqb-true, eq-eqb, ne-eqb, leb-true, not-false}
 use lib.Dec.{leb, eqb}
+use Rattle.lists.specs.Lists.{below}
+use Rattle.lists.proofs.Tables.{table-of}
 use Rattle.lists.proofs.Tests.{both, clash, passes}
 use Rattle.refusals.specs.Refusals.{numberOf, outcomeOf}
 use Rattle.refusals.specs.declared.Refusal.{Refusal}
@@ -24,26 +25,10 @@ use Rattle.event.specs.declared.Event.{Event}
 use Rattle.event.specs.declared.Decoded.{Decoded}
 
 -- a list of twelve, by its numbers
-abbrev row : List ℕ → List ℕ
-row b = byte b 0 ∷ byte b 1 ∷ byte b 2 ∷ byte b 3 ∷ byte b 4 ∷ byte b 5 ∷ byte b 6 ∷ byte b 7 ∷ byte b 8 ∷ byte b 9 ∷ byte b 10 ∷ byte b 11 ∷ []
-
-at : (b : List ℕ) (i : ℕ) → i < 12 → getD b i 0 ≡ getD (row b) i 0
-at b zero h = refl
-at b (suc zero) h = refl
-at b (suc (suc zero)) h = refl
-at b (suc (suc (suc zero))) h = refl
-at b (suc (suc (suc (suc zero)))) h = refl
-at b (suc (suc (suc (suc (suc zero))))) h = refl
-at b (suc (suc (suc (suc (suc (suc zero)))))) h = refl
-at b (suc (suc (suc (suc (suc (suc (suc zero))))))) h = refl
-at b (suc (suc (suc (suc (suc (suc (suc (suc zero)))))))) h = refl
-at b (suc (suc (suc (suc (suc (suc (suc (suc (suc zero))))))))) h = refl
-at b (suc (suc (suc (suc (suc (suc (suc (suc (suc (suc zero)))))))))) h = refl
-at b (suc (suc (suc (suc (suc (suc (suc (suc (suc (suc (suc zero))))))))))) h = refl
-at b (suc (suc (suc (suc (suc (suc (suc (suc (suc (suc (suc (suc n)))))))))))) h = let z : ⊥ = omega arith in absurd z
-
-twelve : (b : List ℕ) → length b ≡ 12 → b ≡ row b
-twelve b h = ext-getD 0 b (row b) h (λ i k. at b i (omega (arith, h, k)))
+twelve : (b : List ℕ) → length b ≡ 12
+    → b ≡ byte b 0 ∷ byte b 1 ∷ byte b 2 ∷ byte b 3 ∷ byte b 4 ∷ byte b 5 ∷ byte b 6 ∷ byte b 7 ∷ byte b 8 ∷ byte b 9 ∷ byte b 10 ∷ byte b 11 ∷ []
+unfolding below
+twelve b h = table-of b 12 0 h
 
 low : (x n : ℕ) → x < 256 → x ≡ (x + 256 * n) % 256
 low x n h = omega arith
