@@ -2,7 +2,6 @@
 use mathlib.Core.Path.{refl}
 use Prim.Native.Nat.{ℕ}
 use mathlib.Core.List.{List}
-use lib.ListN.{take}
 use Rattle.sheet.specs.declared.Settings.{Settings}
 use Rattle.model.specs.Facts.{Settled}
 use Rattle.model.specs.Arrays.{Columns, Regular, stateOf}

@@ -1,10 +1,10 @@
 -- A well-formed record is the record of the event that is read from it.
-use mathlib.Core.Path.{_≡_, refl, sym, ap, _∙_}
-use Prim.Native.Nat.{ℕ, zero, suc, _+_, _*_, _/_, _%_, _≤_, _<_, _^_}
+use mathlib.Core.Path.{_≡_, sym, ap, _∙_}
+use Prim.Native.Nat.{ℕ, _+_, _*_, _/_, _%_, _≤_, _<_}
 use mathlib.Core.Bool.{true, false, not, cond, _&&_, _||_}
 use mathlib.Core.List.{List, [], _∷_}
 use native.Mathlib.Omega.{arith}
-use lib.ListN.{length, getD}
+use lib.ListN.{length}
 use borrow.Author.Tests.{eqb-true, eq-eqb, ne-eqb, leb-true, not-false}
 use lib.Dec.{leb, eqb}
 use Rattle.lists.specs.Lists.{below}
@@ -21,7 +21,6 @@ use Rattle.event.specs.Kinds.{kindNumber, usesOf}
 use Rattle.event.specs.declared.kinds.Uses.{Uses}
 use Rattle.event.specs.declared.kinds.Action.{Action}
 use Rattle.event.specs.Bytes.{bytesOf, formedBy, refusedForm, DecodedFrom}
-use Rattle.event.specs.declared.Event.{Event}
 use Rattle.event.specs.declared.Decoded.{Decoded}
 
 -- a list of twelve, by its numbers
@@ -69,11 +68,6 @@ module _ (b : List ℕ) (f : wellFormed b ≡ true) where
       let e₇ : byte b 7 ≡ stamp / 16777216 = omega (arith, s, y 4, y 5, y 6, y 7) in
       let (_, z₉, z₁₀, z₁₁) = parts in
       twelve b h ∙ (λ i. k₀ i ∷ byte b 1 ∷ byte b 2 ∷ byte b 3 ∷ e₄ i ∷ e₅ i ∷ e₆ i ∷ e₇ i ∷ byte b 8 ∷ z₉ i ∷ z₁₀ i ∷ z₁₁ i ∷ [])
-
--- the stamp of an event's record
-pub stamp-back : (e : Event) → e .stamp < 2 ^ 32 → stampOf (bytesOf e) ≡ e .stamp
-unfolding stampOf
-stamp-back e h = omega arith
 
 -- the kind of a well-formed record
 pub known-form : (b : List ℕ) → wellFormed b ≡ true → (1 ≤ kindOf b) × (kindOf b ≤ 7)

@@ -1,4 +1,4 @@
--- An action and the number of its kind: what a caller of action_of knows of the kind byte, where it matches on the action.
+-- An action and the number of its kind: what a caller of form_of knows of the kind byte, where it matches on the action.
 use mathlib.Core.Path.{_≡_, refl, sym, ap, subst, _∙_}
 use Prim.Native.Nat.{ℕ, _<_}
 use mathlib.Core.Bool.{Bool, true, false, not, cond}
@@ -38,27 +38,3 @@ told r a k e t h = go (known k) (sym e ∙ ap kindNumber t)
 pub told-not : (r : Action) (k m : ℕ) (ks : List ℕ) → kindNumber r ≡ cond (known k) k 0 → known m ≡ true → OneOf ks (tagOf Action.the-type r)
     → T (not (hasKey ks m)) → eqb k m ≡ false
 told-not r k m ks e f o h = ne-eqb k m (λ q. miss ks m h (subst (λ (x : ℕ). OneOf ks x) (tag-number r ∙ e ∙ rw (q, f)) o))
-
--- the equation leaves one action for each kind
-pub told-once : (r a : Action) → kindNumber r ≡ kindNumber a → r ≡ a
-told-once r a e = sym (back r) ∙ ap from e ∙ back a
-  where
-    from : ℕ → Action
-    from n =
-        cond (eqb n 1) Tick
-        (cond (eqb n 2) Create
-        (cond (eqb n 3) Ready
-        (cond (eqb n 4) Block
-        (cond (eqb n 5) SetPriority
-        (cond (eqb n 6) End
-        (cond (eqb n 7) Resume Unknown))))))
-
-    back : (x : Action) → from (kindNumber x) ≡ x
-    back Unknown = refl
-    back Tick = refl
-    back Create = refl
-    back Ready = refl
-    back Block = refl
-    back SetPriority = refl
-    back End = refl
-    back Resume = refl

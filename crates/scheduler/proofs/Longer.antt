@@ -10,11 +10,9 @@ use native.Mathlib.Decide.{decLe}
 use Rattle.lists.specs.Lists.{below}
 use Rattle.lists.proofs.Tables.{table-length}
 use Rattle.sheet.specs.Records.{digitsOf}
-use Rattle.sheet.specs.declared.Settings.{Settings}
 use Rattle.model.specs.Step.{Saved, Answer, answer}
 use Rattle.model.specs.Run.{Entry, run, after}
 use Rattle.model.specs.Answers.{Line, answerLine, textOf}
-use Rattle.invariants.proofs.Answered.{Good, good-answer}
 use Rattle.model.specs.Stream.{eventAt, eventsIn, linesOf}
 
 -- ---- records
@@ -52,11 +50,6 @@ run-length : (v : Saved) (bs : List (List ℕ)) → length (run v bs) ≡ length
 unfolding run
 run-length v [] = refl
 run-length v (b ∷ bs) = ap suc (run-length (answer v b .after) bs)
-
-pub good-after : (c : Settings) (v : Saved) (bs : List (List ℕ)) → Good c v → Good c (after v bs)
-unfolding after
-good-after c v [] g = g
-good-after c v (b ∷ bs) g = good-after c (answer v b .after) bs (good-answer c v b g)
 
 -- ---- lines
 

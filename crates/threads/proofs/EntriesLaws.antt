@@ -92,10 +92,6 @@ module _ (l : List ℕ) (at : ℕ) where
       ∙ set-at (take i w) (getD l i 0) (drop (i + 1) l) (getD w i 0) i a
       ∙ sym (append-snoc (take i w) (getD w i 0) (drop (i + 1) l)) ∙ ap (λ x. x ++ drop (i + 1) l) (sym t)
 
-  pub shift-length : (i : ℕ) → at < length l → i < length l → length (shifted i) ≡ length l
-  unfolding shifted
-  shift-length i h k = simp (length-append, length-drop) (omega (arith, front i h k))
-
   -- and a zero where the last one stood
   pub shift-end : (n i : ℕ) → at < n → n ≤ length l → i ≡ n - 1 → set (shifted i) i 0 ≡ removed l n at
   unfolding shifted removed
