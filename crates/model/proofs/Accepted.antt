@@ -1,7 +1,7 @@
 -- What it says of a state, and of an event, that the door refuses it with no number.
 use mathlib.Core.Path.{_≡_}
 use Prim.Native.Nat.{ℕ, _≤_}
-use mathlib.Core.Bool.{Bool, false, not, cond, _&&_}
+use mathlib.Core.Bool.{Bool, false, not, cond, _&&_, _||_}
 use mathlib.Core.List.{List}
 use lib.ListN.{length}
 use lib.Dec.{eqb, leb, ltb}
@@ -10,9 +10,10 @@ use native.Mathlib.Omega.{arith}
 use Rattle.lists.proofs.Tests.{neither, and-right, passes, passes-number}
 use Rattle.sheet.specs.Settings.{withinLimits}
 use Rattle.model.specs.State.{thread, wanted, State}
+use Rattle.model.specs.Slices.{roundRobin}
 use Rattle.model.specs.Sound.{sound}
 use Rattle.model.specs.Event
-use Rattle.model.specs.Event.{kindOf, threadOf, partitionOf, refusedState, refusedEvent, refused, tooLong, namesThread, wrongThread, wrongPlace, wrongReadiness, wellFormed}
+use Rattle.model.specs.Event.{kindOf, threadOf, partitionOf, maskOf, policyOf, refusedState, refusedEvent, refused, tooLong, namesThread, wrongThread, wrongPlace, wrongReadiness, wellFormed}
 use Rattle.model.specs.Facts.{Fit, Accepted}
 use Rattle.sheet.proofs.Within.{of-limits}
 use Rattle.model.proofs.Meaning.{sound-of, of-sound}
@@ -48,8 +49,9 @@ accepted-of s h b e =
         thread-inside = λ lo hi. leb-false _ _ (named a₅ lo hi .0);
         absent = λ k. rw (eq-eqb _ _ k) at (named a₅ (omega arith) (omega arith) .1);
         exists = λ lo hi. not-false _ (rw (ne-eqb (kindOf b) Event.create (omega arith)) at (named a₅ (omega arith) hi .1));
-        partition-inside = λ k. leb-false _ _ (neither _ _ (and-right _ _ a₆ (eq-eqb _ _ k)) .0);
-        some-core = λ k. eqb-false _ _ (neither (leb (s .settings .count) (partitionOf b)) _ (and-right _ _ a₆ (eq-eqb _ _ k)) .1);
+        partition-inside = λ k. leb-false _ _ (placed a₆ k .0);
+        some-core = λ k. eqb-false _ _ (placed a₆ k .1);
+        known-policy = λ k. ltb-false _ _ (placed a₆ k .2);
         not-ready = λ k. and-right _ _ (neither _ _ a₇ .0) (eq-eqb _ _ k);
         was-ready = λ k. not-false _ (and-right _ _ (neither (eqb (kindOf b) Event.ready && thread s (threadOf b) .ready) _ a₇ .1) (eq-eqb _ _ k));
       };
@@ -57,6 +59,13 @@ accepted-of s h b e =
   where
     on : Bool
     on = thread s (threadOf b) .exists
+
+    placed : wrongPlace s b ≡ false → kindOf b ≡ Event.create
+        → (leb (s .settings .count) (partitionOf b) ≡ false) × (eqb (maskOf b) 0 ≡ false) × (ltb roundRobin (policyOf b) ≡ false)
+    placed q k =
+        let (x, z) = neither (leb (s .settings .count) (partitionOf b) || eqb (maskOf b) 0) _ (and-right _ _ q (eq-eqb _ _ k)) in
+        let (y, w) = neither (leb (s .settings .count) (partitionOf b)) _ x in
+        (y, w, z)
 
     named : wrongThread s b ≡ false → Event.create ≤ kindOf b → kindOf b ≤ Event.end
         → (leb 64 (threadOf b) ≡ false) × (cond (eqb (kindOf b) Event.create) on (not on) ≡ false)

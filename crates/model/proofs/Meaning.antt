@@ -1,18 +1,19 @@
 -- The test `sound` holds exactly where the record `Sound` of facts does.
 use mathlib.Core.Logic.{_≢_}
-use mathlib.Core.Path.{_≡_, refl, sym}
+use mathlib.Core.Path.{_≡_, refl, sym, ap, _∙_}
 use Prim.Native.Nat.{ℕ, _≤_, _<_}
 use mathlib.Core.Bool.{Bool, true, false, not, cond, _&&_, _||_}
 use mathlib.Core.List.{List}
-use lib.Dec.{eqb, ltb}
+use lib.Dec.{eqb, leb, ltb}
 use borrow.Author.Tests.{eqb-true, eqb-false, eq-eqb, ne-eqb, leb-true, le-leb, ltb-true, lt-ltb, ltb-false, le-ltb, not-true}
 use Rattle.lists.specs.Lists.{member}
 use Rattle.lists.proofs.Tests.{both, and, or-right}
 use Rattle.lists.proofs.All.{all-below, below-all, all-member, member-all}
 use Rattle.sheet.specs.Settings.{share}
 use Rattle.model.specs.State.{absent, thread, queueOf, allows, idle, used, Thread, State}
-use Rattle.model.specs.Sound.{slotSum, soundHistory, soundThread, soundQueue, soundRest, soundRunning, sound}
-use Rattle.model.specs.Facts.{Books, Rest, Proper, ReadyQueue, Stored, Runs, Settled, Sound}
+use Rattle.model.specs.Slices.{roundRobin, fullSlice}
+use Rattle.model.specs.Sound.{slotSum, soundHistory, soundSlice, soundThread, soundQueue, soundRest, soundRunning, sound}
+use Rattle.model.specs.Facts.{Books, Rest, SliceFits, Proper, ReadyQueue, Stored, Runs, Settled, Sound}
 use Rattle.sheet.proofs.Within.{limits-of, of-limits}
 
 books-of : (s : State) (h : List ℕ) → soundHistory s h ≡ true → Books (s .settings) (s .used) (s .slot .0) (s .since .0) h
@@ -56,39 +57,82 @@ of-rest s r = below-all _ _ (λ p b. go p b (ltb p (s .settings .count)) refl)
         let out : s .settings .count ≤ p = ltb-false _ _ q in
         and (eq-eqb _ _ (r .no-share p b out)) (eq-eqb _ _ (r .no-total p b out))
 
+-- the slice
+slice-of : (r : Thread) → soundSlice r ≡ true → SliceFits (r .policy) (r .slice)
+unfolding soundSlice
+slice-of r e =
+    let (a, f) = both (leb (r .policy) roundRobin) (slice (eqb (r .policy) roundRobin)) e in
+    let some : r .policy ≡ roundRobin → (leb 1 (r .slice) ≡ true) × (leb (r .slice) fullSlice ≡ true) = λ w. both _ _ (ap slice (sym (eq-eqb _ _ w)) ∙ f) in
+    record {
+      known = leb-true _ _ a;
+      low = λ w. leb-true _ _ (some w .0);
+      high = λ w. leb-true _ _ (some w .1);
+      none = λ w. eqb-true _ _ (ap slice (sym (ne-eqb _ _ w)) ∙ f);
+    }
+  where
+    slice : Bool → Bool
+    slice z = cond z (leb 1 (r .slice) && leb (r .slice) fullSlice) (eqb (r .slice) 0)
+
+of-slice : (r : Thread) → SliceFits (r .policy) (r .slice) → soundSlice r ≡ true
+unfolding soundSlice
+of-slice r p = and (le-leb _ _ (p .known)) (go (eqb (r .policy) roundRobin) refl)
+  where
+    go : (z : Bool) → eqb (r .policy) roundRobin ≡ z → cond z (leb 1 (r .slice) && leb (r .slice) fullSlice) (eqb (r .slice) 0) ≡ true
+    go true e = let w : r .policy ≡ roundRobin = eqb-true _ _ e in and (le-leb _ _ (p .low w)) (le-leb _ _ (p .high w))
+    go false e = eq-eqb _ _ (p .none (eqb-false _ _ e))
+
+no-slice : soundSlice absent ≡ true
+unfolding soundSlice
+no-slice = refl
+
 proper-of : (s : State) (r : Thread) → soundThread (s .settings .count) r ≡ true → Proper (s .settings .count) r
-unfolding soundThread
+unfolding soundThread soundSlice
 proper-of s r e = record {
   partition = λ x. ltb-true _ _ (there x .0);
   mask = λ x. eqb-false _ _ (not-true _ (there x .1));
+  slice = slice-of r sliced;
   none = λ x. gone x (not-there x);
 }
   where
-    there : r .exists ≡ true → (ltb (r .partition) (s .settings .count) ≡ true) × (not (eqb (r .mask) 0) ≡ true)
-    there x = both _ _ (rw x at e)
+    exists : r .exists ≡ true → ((ltb (r .partition) (s .settings .count) && not (eqb (r .mask) 0)) ≡ true) × (soundSlice r ≡ true)
+    exists x = both _ _ (rw x at e)
 
-    not-there : r .exists ≡ false → (not (r .ready) && eqb (r .partition) 0 && eqb (r .priority) 0 && eqb (r .mask) 0) ≡ true
+    there : r .exists ≡ true → (ltb (r .partition) (s .settings .count) ≡ true) × (not (eqb (r .mask) 0) ≡ true)
+    there x = both _ _ (exists x .0)
+
+    not-there : r .exists ≡ false → (not (r .ready) && eqb (r .partition) 0 && eqb (r .priority) 0 && eqb (r .mask) 0 && eqb (r .policy) 0 && eqb (r .slice) 0) ≡ true
     not-there x = rw x at e
 
-    gone : r .exists ≡ false → (not (r .ready) && eqb (r .partition) 0 && eqb (r .priority) 0 && eqb (r .mask) 0) ≡ true → r ≡ absent
+    gone : r .exists ≡ false → (not (r .ready) && eqb (r .partition) 0 && eqb (r .priority) 0 && eqb (r .mask) 0 && eqb (r .policy) 0 && eqb (r .slice) 0) ≡ true → r ≡ absent
     gone x f =
-        let (f₁, d) = both _ _ f in
+        let (g₁, l) = both _ _ f in
+        let (g₂, o) = both _ _ g₁ in
+        let (f₁, d) = both _ _ g₂ in
         let (f₂, c) = both _ _ f₁ in
         let (a, b) = both _ _ f₂ in
         let a′ : r .ready ≡ false = not-true _ a in
         let b′ : r .partition ≡ 0 = eqb-true _ _ b in
         let c′ : r .priority ≡ 0 = eqb-true _ _ c in
         let d′ : r .mask ≡ 0 = eqb-true _ _ d in
-        λ i. record { exists = x i; ready = a′ i; partition = b′ i; priority = c′ i; mask = d′ i }
+        let o′ : r .policy ≡ 0 = eqb-true _ _ o in
+        let l′ : r .slice ≡ 0 = eqb-true _ _ l in
+        λ i. record { exists = x i; ready = a′ i; partition = b′ i; priority = c′ i; mask = d′ i; policy = o′ i; slice = l′ i }
+
+    sliced : soundSlice r ≡ true
+    sliced = go (r .exists) refl
+      where
+        go : (z : Bool) → r .exists ≡ z → soundSlice r ≡ true
+        go true x = exists x .1
+        go false x = rw (gone x (not-there x)) no-slice
 
 of-proper : (s : State) (r : Thread) → Proper (s .settings .count) r → soundThread (s .settings .count) r ≡ true
 unfolding soundThread
 of-proper s r p = go (r .exists) refl
   where
     go : (z : Bool) → r .exists ≡ z
-        → cond z (ltb (r .partition) (s .settings .count) && not (eqb (r .mask) 0))
-        (not (r .ready) && eqb (r .partition) 0 && eqb (r .priority) 0 && eqb (r .mask) 0) ≡ true
-    go true e = let m : not (eqb (r .mask) 0) ≡ true = rw (ne-eqb _ _ (p .mask e)) in and (lt-ltb _ _ (p .partition e)) m
+        → cond z (ltb (r .partition) (s .settings .count) && not (eqb (r .mask) 0) && soundSlice r)
+        (not (r .ready) && eqb (r .partition) 0 && eqb (r .priority) 0 && eqb (r .mask) 0 && eqb (r .policy) 0 && eqb (r .slice) 0) ≡ true
+    go true e = let m : not (eqb (r .mask) 0) ≡ true = rw (ne-eqb _ _ (p .mask e)) in and (and (lt-ltb _ _ (p .partition e)) m) (of-slice r (p .slice))
     go false e = rw (p .none e)
 
 same-bool : (a b : Bool) → cond a b (not b) ≡ true → a ≡ b

@@ -21,22 +21,27 @@ pub record Columns : Type 0 where
   pub partitions : List ℕ
   pub priorities : List ℕ
   pub masks : List ℕ
+  pub policies : List ℕ
+  pub slices : List ℕ
 
-abbrev pub columns : List ℕ → List ℕ → List ℕ → List ℕ → List ℕ → Columns
-columns e r p n m = record { exists = e; ready = r; partitions = p; priorities = n; masks = m }
+abbrev pub columns : List ℕ → List ℕ → List ℕ → List ℕ → List ℕ → List ℕ → List ℕ → Columns
+columns e r p n m o l = record { exists = e; ready = r; partitions = p; priorities = n; masks = m; policies = o; slices = l }
 
 -- the same with another column, or two
 abbrev pub withFlagColumns : Columns → List ℕ → List ℕ → Columns
-withFlagColumns ts e r = columns e r (ts .partitions) (ts .priorities) (ts .masks)
+withFlagColumns ts e r = columns e r (ts .partitions) (ts .priorities) (ts .masks) (ts .policies) (ts .slices)
 
 abbrev pub withReadyColumn : Columns → List ℕ → Columns
 withReadyColumn ts r = withFlagColumns ts (ts .exists) r
 
 abbrev pub withPartitionColumn : Columns → List ℕ → Columns
-withPartitionColumn ts p = columns (ts .exists) (ts .ready) p (ts .priorities) (ts .masks)
+withPartitionColumn ts p = columns (ts .exists) (ts .ready) p (ts .priorities) (ts .masks) (ts .policies) (ts .slices)
 
 abbrev pub withPriorityColumn : Columns → List ℕ → Columns
-withPriorityColumn ts n = columns (ts .exists) (ts .ready) (ts .partitions) n (ts .masks)
+withPriorityColumn ts n = columns (ts .exists) (ts .ready) (ts .partitions) n (ts .masks) (ts .policies) (ts .slices)
+
+abbrev pub withSliceColumn : Columns → List ℕ → Columns
+withSliceColumn ts l = columns (ts .exists) (ts .ready) (ts .partitions) (ts .priorities) (ts .masks) (ts .policies) l
 
 -- thread t's record
 abbrev pub threadIn : Columns → ℕ → Thread
@@ -47,6 +52,8 @@ threadIn ts t =
       partition = getD (ts .partitions) t 0;
       priority = getD (ts .priorities) t 0;
       mask = getD (ts .masks) t 0;
+      policy = getD (ts .policies) t 0;
+      slice = getD (ts .slices) t 0;
     }
 
 unfoldable pub threadsIn : Columns → List Thread
@@ -78,6 +85,8 @@ pub record Sized (ts : Columns) : Type 0 where
   pub partitions : length (ts .partitions) ≡ 64
   pub priorities : length (ts .priorities) ≡ 64
   pub masks : length (ts .masks) ≡ 64
+  pub policies : length (ts .policies) ≡ 64
+  pub slices : length (ts .slices) ≡ 64
 
 -- every flag of the threads is 0 or 1
 abbrev pub flagsFit : Columns → Bool

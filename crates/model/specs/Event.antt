@@ -7,6 +7,7 @@ use lib.Dec.{leb, ltb, eqb}
 use Rattle.units.specs.Units.{elapsedOf}
 use Rattle.sheet.specs.Settings.{C, withinLimits}
 use Rattle.model.specs.State.{thread, wanted, State}
+use Rattle.model.specs.Slices.{roundRobin}
 use Rattle.model.specs.Sound.{sound}
 
 abbrev pub byte : List ℕ → ℕ → ℕ
@@ -26,6 +27,10 @@ priorityOf b = byte b 3
 
 abbrev pub maskOf : List ℕ → ℕ
 maskOf b = byte b 8
+
+-- "Byte 9 of a create event becomes the policy"
+abbrev pub policyOf : List ℕ → ℕ
+policyOf b = byte b 9
 
 -- the timestamp, low byte first
 unfoldable pub stampOf : List ℕ → ℕ
@@ -53,7 +58,7 @@ end = 6
 abbrev pub resume : ℕ
 resume = 7
 
--- the kinds, and which of the bytes 1 (thread), 2 and 8 (partition and mask) and 3 (priority) each uses
+-- the kinds, and which of the bytes 1 (thread), 2, 8 and 9 (partition, mask and policy) and 3 (priority) each uses
 unfoldable pub known : ℕ → Bool
 known k = leb tick k && leb k resume
 
@@ -77,7 +82,8 @@ wellFormed b =
     && (namesPlace (kindOf b) || blank b 2)
     && (namesPriority (kindOf b) || blank b 3)
     && (namesPlace (kindOf b) || blank b 8)
-    && blank b 9 && blank b 10 && blank b 11
+    && (namesPlace (kindOf b) || blank b 9)
+    && blank b 10 && blank b 11
 
 -- the cycles since the last accepted event
 abbrev pub elapsedAt : State → List ℕ → ℕ
@@ -94,10 +100,10 @@ wrongThread s b =
     && (leb 64 (threadOf b)
     || (cond (eqb (kindOf b) create) (thread s (threadOf b) .exists) (not (thread s (threadOf b) .exists))))
 
--- 12: "partition not below the count; mask 0 at create"
+-- 12: "partition not below the count; mask 0 at create", "policy above 1"
 unfoldable pub wrongPlace : State → List ℕ → Bool
 wrongPlace s b =
-    eqb (kindOf b) create && (leb (s .settings .count) (partitionOf b) || eqb (maskOf b) 0)
+    eqb (kindOf b) create && (leb (s .settings .count) (partitionOf b) || eqb (maskOf b) 0 || ltb roundRobin (policyOf b))
 
 -- 13: "ready of a ready thread, block of one not ready"
 unfoldable pub wrongReadiness : State → List ℕ → Bool

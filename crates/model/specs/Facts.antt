@@ -10,8 +10,9 @@ use lib.Dec.{eqb}
 use Rattle.lists.specs.Lists.{all, sum, total, member, distinct}
 use Rattle.sheet.specs.Settings.{W, C, share, Limits}
 use Rattle.model.specs.State.{absent, thread, queueOf, allows, idle, wanted, Thread, State}
+use Rattle.model.specs.Slices.{roundRobin, fullSlice}
 use Rattle.model.specs.Event
-use Rattle.model.specs.Event.{kindOf, threadOf, partitionOf, maskOf, elapsedAt, wellFormed}
+use Rattle.model.specs.Event.{kindOf, threadOf, partitionOf, maskOf, policyOf, elapsedAt, wellFormed}
 use Rattle.units.specs.declared.Cycles.{Cycles}
 use Rattle.sheet.specs.declared.Settings.{Settings}
 
@@ -35,10 +36,18 @@ pub record Rest (c : Settings) (u : List Cycles) : Type 0 where
   pub no-share : (p : ℕ) → p < 16 → c .count ≤ p → share c p ≡ 0
   pub no-total : (p : ℕ) → p < 16 → c .count ≤ p → usedAt u p ≡ 0
 
+-- a thread's policy, and what is left of its slice
+pub record SliceFits (policy slice : ℕ) : Type 0 where
+  pub known : policy ≤ roundRobin
+  pub low : policy ≡ roundRobin → 1 ≤ slice
+  pub high : policy ≡ roundRobin → slice ≤ fullSlice
+  pub none : policy ≢ roundRobin → slice ≡ 0
+
 -- a thread's record
 pub record Proper (count : ℕ) (r : Thread) : Type 0 where
   pub partition : r .exists ≡ true → r .partition < count
   pub mask : r .exists ≡ true → r .mask ≢ 0
+  pub slice : SliceFits (r .policy) (r .slice)
   pub none : r .exists ≡ false → r ≡ absent
 
 abbrev pub threadAt : List Thread → ℕ → Thread
@@ -88,6 +97,7 @@ pub record Named (s : State) (b : List ℕ) : Type 0 where
   pub exists : Event.ready ≤ kindOf b → kindOf b ≤ Event.end → thread s (threadOf b) .exists ≡ true
   pub partition-inside : kindOf b ≡ Event.create → partitionOf b < s .settings .count
   pub some-core : kindOf b ≡ Event.create → maskOf b ≢ 0
+  pub known-policy : kindOf b ≡ Event.create → policyOf b ≤ roundRobin
   pub not-ready : kindOf b ≡ Event.ready → thread s (threadOf b) .ready ≡ false
   pub was-ready : kindOf b ≡ Event.block → thread s (threadOf b) .ready ≡ true
 

@@ -1,4 +1,5 @@
 pub mod State
+pub mod Slices
 pub mod Arrays
 pub mod Policy
 pub mod Choices

@@ -7,6 +7,7 @@ use lib.Dec.{leb, ltb, eqb}
 use Rattle.lists.specs.Lists.{below, sum, total, all, member, distinct}
 use Rattle.sheet.specs.Settings.{W, C, share, withinLimits}
 use Rattle.model.specs.State.{thread, queueOf, allows, idle, used, place, row, Thread, State}
+use Rattle.model.specs.Slices.{roundRobin, fullSlice}
 use Rattle.model.specs.Policy.{partitions}
 
 -- two flags agree
@@ -27,12 +28,18 @@ soundHistory s h =
     && all (λ k. leb (slotSum s h k) (2 * C (s .settings))) (below (W (s .settings)))
     && leb (slotSum s h (s .slot .0)) (s .since .0)
 
+-- "In a sound state a round-robin slice is 1 to 4, any other 0"; no policy is above 1, as no flag is
+unfoldable pub soundSlice : Thread → Bool
+soundSlice r =
+    leb (r .policy) roundRobin
+    && cond (eqb (r .policy) roundRobin) (leb 1 (r .slice) && leb (r .slice) fullSlice) (eqb (r .slice) 0)
+
 -- "existing threads with a valid partition and a mask other than 0", "records of absent threads .. all zero"
 unfoldable pub soundThread : ℕ → Thread → Bool
 soundThread count r =
     cond (r .exists)
-    (ltb (r .partition) count && not (eqb (r .mask) 0))
-    (not (r .ready) && eqb (r .partition) 0 && eqb (r .priority) 0 && eqb (r .mask) 0)
+    (ltb (r .partition) count && not (eqb (r .mask) 0) && soundSlice r)
+    (not (r .ready) && eqb (r .partition) 0 && eqb (r .priority) 0 && eqb (r .mask) 0 && eqb (r .policy) 0 && eqb (r .slice) 0)
 
 -- "the line without repeats and holding exactly the ready threads, all existing; unused places of the line .. all zero"
 unfoldable pub soundQueue : State → Bool

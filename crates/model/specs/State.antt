@@ -10,13 +10,16 @@ use Rattle.units.specs.declared.Cycles.{Cycles}
 use Rattle.units.specs.declared.Ticks.{Ticks}
 use Rattle.sheet.specs.declared.Settings.{Settings}
 
--- "threads, each with a partition, a priority 0 to 255 and a run mask of 8 bits, one a core"
+-- "threads, each with a partition, a priority 0 to 255 and a run mask of 8 bits, one a core"; since request (i) of document 02 with a policy,
+-- and with the ticks left of its slice
 pub record Thread : Type 0 where
   pub exists : Bool
   pub ready : Bool
   pub partition : ℕ
   pub priority : ℕ
   pub mask : ℕ
+  pub policy : ℕ
+  pub slice : ℕ
 
 pub record State : Type 0 where
   pub settings : Settings
@@ -35,12 +38,12 @@ pub record State : Type 0 where
 
 -- the record of a thread that does not exist
 abbrev pub absent : Thread
-absent = record { exists = false; ready = false; partition = 0; priority = 0; mask = 0 }
+absent = record { exists = false; ready = false; partition = 0; priority = 0; mask = 0; policy = 0; slice = 0 }
 
 abbrev pub thread : State → ℕ → Thread
 thread s t = getD (s .threads) t absent
 
--- "The line holds every ready thread, the running one included, in order of becoming ready": the ready queue
+-- "The line holds every ready thread, the running one included, in order of becoming ready", and of having gone to its tail: the ready queue
 abbrev pub queueOf : State → List ℕ
 queueOf s = take (s .queued) (s .queue)
 

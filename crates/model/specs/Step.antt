@@ -9,8 +9,9 @@ use Rattle.lists.specs.Lists.{keep}
 use Rattle.units.specs.Units.{elapsedOf, nextOf}
 use Rattle.sheet.specs.Settings.{W}
 use Rattle.model.specs.State.{cycles, absent, thread, queueOf, idle, used, place, wanted, Thread, State}
+use Rattle.model.specs.Slices.{sliceFor, withSlice, counted, ends}
 use Rattle.model.specs.Policy.{Decided, decide}
-use Rattle.model.specs.Event.{kindOf, threadOf, partitionOf, priorityOf, maskOf, stampOf, tick, create, ready, block, setPriority, end, resume, refused}
+use Rattle.model.specs.Event.{kindOf, threadOf, partitionOf, priorityOf, maskOf, policyOf, stampOf, tick, create, ready, block, setPriority, end, resume, refused}
 use Rattle.units.specs.declared.Cycles.{Cycles}
 
 -- a state beside its history
@@ -143,19 +144,39 @@ moveSlot v =
 unfoldable pub leaves : List ℕ → ℕ → List ℕ
 leaves ts t = keep (λ u. not (eqb u t)) ts
 
+-- the queue with thread t at its tail
+abbrev pub toTail : List ℕ → ℕ → List ℕ
+toTail ts t = leaves ts t ++ (t ∷ [])
+
+-- the queue after a tick that found the thread t, of the record r, running: "at zero .. the thread goes to the tail of the line"
+unfoldable pub turned : Thread → ℕ → List ℕ → List ℕ
+turned r t ts = cond (ends r) (toTail ts t) ts
+
+-- 2, a tick, to the running thread t: "the running thread's task block is counted down and its state changed, if it is round robin; at
+-- zero the slice is refilled and the thread goes to the tail of the line, before the decision". While idle there is no such thread, its
+-- record is `absent`, and nothing changes
+unfoldable pub sliced : State → ℕ → State
+sliced s t = withQueue (withThread s t (counted (thread s t))) (turned (thread s t) t (queueOf s))
+
 abbrev pub withReady : Thread → Bool → Thread
-withReady r on = record { exists = r .exists; ready = on; partition = r .partition; priority = r .priority; mask = r .mask }
+withReady r on =
+    record { exists = r .exists; ready = on; partition = r .partition; priority = r .priority; mask = r .mask; policy = r .policy; slice = r .slice }
+
+-- ready once more: "A thread that blocks and returns has a full slice"
+abbrev pub returned : Thread → Thread
+returned r = withSlice (withReady r true) (sliceFor (r .policy))
 
 abbrev pub withPriority : Thread → ℕ → Thread
-withPriority r n = record { exists = r .exists; ready = r .ready; partition = r .partition; priority = n; mask = r .mask }
+withPriority r n =
+    record { exists = r .exists; ready = r .ready; partition = r .partition; priority = n; mask = r .mask; policy = r .policy; slice = r .slice }
 
--- a new thread, not ready
-abbrev pub created : ℕ → ℕ → ℕ → Thread
-created p n m = record { exists = true; ready = false; partition = p; priority = n; mask = m }
+-- a new thread, not ready, with a full slice
+abbrev pub created : ℕ → ℕ → ℕ → ℕ → Thread
+created p n m o = record { exists = true; ready = false; partition = p; priority = n; mask = m; policy = o; slice = sliceFor o }
 
 -- thread t joins the queue at its tail; it leaves the queue, with the record r
 abbrev pub joins : State → ℕ → State
-joins s t = withQueue (withThread s t (withReady (thread s t) true)) (queueOf s ++ (t ∷ []))
+joins s t = withQueue (withThread s t (returned (thread s t))) (queueOf s ++ (t ∷ []))
 
 abbrev pub goes : State → ℕ → Thread → State
 goes s t r = withQueue (withThread s t r) (leaves (queueOf s) t)
@@ -164,7 +185,7 @@ goes s t r = withQueue (withThread s t r) (leaves (queueOf s) t)
 unfoldable pub act : State → List ℕ → State
 act s b =
     let t : ℕ = threadOf b in
-    cond (eqb (kindOf b) create) (withThread s t (created (partitionOf b) (priorityOf b) (maskOf b)))
+    cond (eqb (kindOf b) create) (withThread s t (created (partitionOf b) (priorityOf b) (maskOf b) (policyOf b)))
     (cond (eqb (kindOf b) ready) (joins s t)
     (cond (eqb (kindOf b) block) (goes s t (withReady (thread s t) false))
     (cond (eqb (kindOf b) setPriority) (withThread s t (withPriority (thread s t) (priorityOf b)))
@@ -188,11 +209,15 @@ restart v stamp =
     (withClock (withUsed s (replicate 16 (cycles 0))) stamp 0 0)
     (zeroRows s (v .history))
 
+-- a tick, after the charge: the slot moves, and the slice of the thread that ran until the tick is counted
+abbrev pub ticked : Saved → Saved
+ticked v = saved (sliced (moveSlot v .state) (v .state .running)) (moveSlot v .history)
+
 -- steps 1 and 2 of an accepted event, or a resume
 unfoldable pub apply : Saved → List ℕ → Saved
 apply v b =
     cond (eqb (kindOf b) resume) (restart v (stampOf b))
-    (cond (eqb (kindOf b) tick) (moveSlot (charge v (stampOf b)))
+    (cond (eqb (kindOf b) tick) (ticked (charge v (stampOf b)))
     (saved (act (charge v (stampOf b) .state) b) (charge v (stampOf b) .history)))
 
 -- the answer of the event door in the paper's numbers, with the state and the history that it leaves

@@ -25,6 +25,8 @@ pub record ThreadTyped (r : Thread) : Type 0 where
   pub partition : r .partition < 256
   pub priority : r .priority < 256
   pub mask : r .mask < 256
+  pub policy : r .policy < 256
+  pub slice : r .slice < 256
 
 -- a list of 32-bit numbers, a list of bytes; past the end getD reads 0
 abbrev pub Words : List ℕ → Type 0
