@@ -15,8 +15,8 @@ use Rattle.lists.proofs.Tests.{clash, both}
 use Rattle.lists.proofs.All.{member-keep}
 use Rattle.lists.proofs.Loops.{member-here}
 use Rattle.model.specs.State.{absent, thread, queueOf, State, Thread}
-use Rattle.model.specs.Event.{kindOf, threadOf, partitionOf, priorityOf, maskOf}
-use Rattle.model.specs.Step.{withThread, withReady, withPriority, created, joins, goes, leaves, act}
+use Rattle.model.specs.Event.{kindOf, threadOf, partitionOf, priorityOf, maskOf, policyOf}
+use Rattle.model.specs.Step.{withThread, withReady, returned, withPriority, created, joins, goes, leaves, act}
 use Rattle.model.specs.Facts.{Settled}
 use Rattle.model.specs.Arrays.{Columns, stateOf}
 use Rattle.model.proofs.Table.{threads-length, thread-at}
@@ -31,7 +31,7 @@ use Rattle.decision.specs.Follow.{Before, stateBefore, withLent, Followe
 
 -- what the model's action is for each kind, by the thread's number
 module _ (s : State) (b : List ℕ) (t : ℕ) (n : t ≡ threadOf b) where
-  act-create : kindOf b ≡ 2 → act s b ≡ withThread s t (created (partitionOf b) (priorityOf b) (maskOf b))
+  act-create : kindOf b ≡ 2 → act s b ≡ withThread s t (created (partitionOf b) (priorityOf b) (maskOf b) (policyOf b))
   act-create e = rw n (Actions.act-create s b e)
 
   act-ready : kindOf b ≡ 3 → act s b ≡ joins s t
@@ -157,12 +157,12 @@ module _ (core : ℕ) (r ps ns ms q : List ℕ) (queued : ℕ) (tops firsts : Li
     pub ready-asks : (t < 64) × (core ≤ 7) × (getD ps t 0 < 16)
     ready-asks =
         let b = inside (omega (arith, kind-ready)) (omega (arith, kind-ready)) in
-        let e = now-in t (withReady (thread s₀ t) true) (here (withReady (thread s₀ t) true) (ap (λ (y : State). y .threads) does-ready) b) in
+        let e = now-in t (returned (thread s₀ t)) (here (returned (thread s₀ t)) (ap (λ (y : State). y .threads) does-ready) b) in
         (b, rw (h .on) (settled .limits .core), omega (arith, e .0, was-in t .0, home-in (omega (arith, kind-ready)) (omega (arith, kind-ready))))
 
     pub ready-kept : (tops′ firsts′ : List ℕ) (set′ : ℕ) → Joins core ps ns ms t tops firsts set₀ tops′ firsts′ set′ → KeptIn core ps ns ms line tops′ firsts′ set′
     ready-kept tops′ firsts′ set′ j =
-        let x = withReady (thread s₀ t) true in
+        let x = returned (thread s₀ t) in
         let stored = ap (λ (y : State). y .threads) does-ready in
         let b = inside (omega (arith, kind-ready)) (omega (arith, kind-ready)) in
         let same : (u : ℕ) → member u line₀ ≡ true → Same u = λ u m. at u (ℕ-discrete u t) b in
@@ -172,10 +172,10 @@ module _ (core : ℕ) (r ps ns ms q : List ℕ) (queued : ℕ) (tops firsts : Li
       where
         at : (u : ℕ) → Dec (u ≡ t) → t < 64 → Same u
         at u (yes e) b =
-            let (a, c, d) = now-in t (withReady (thread s₀ t) true) (here (withReady (thread s₀ t) true) (ap (λ (y : State). y .threads) does-ready) b) in
+            let (a, c, d) = now-in t (returned (thread s₀ t)) (here (returned (thread s₀ t)) (ap (λ (y : State). y .threads) does-ready) b) in
             let (x, y, z) = was-in t in
             subst Same (sym e) (a ∙ x, c ∙ y, d ∙ z)
-        at u (no n) b = others (withReady (thread s₀ t) true) (ap (λ (y : State). y .threads) does-ready) u n
+        at u (no n) b = others (returned (thread s₀ t)) (ap (λ (y : State). y .threads) does-ready) u n
 
   -- ---- block and end
 

@@ -1,4 +1,5 @@
--- The leads are right again: after a thread joined, after a partition was walked anew, after a thread left, after a priority changed.
+-- The leads are right again: after a thread joined, after a partition was walked anew, after a thread left or went to the tail, after a priority
+-- changed.
 use mathlib.Core.Logic.{_≢_}
 use mathlib.Core.Path.{_≡_, refl, sym, ap, ap₂, subst, _∙_}
 use Prim.Native.Nat.{ℕ, zero, suc, _+_, _-_, _≤_, _<_}
@@ -17,12 +18,12 @@ use Rattle.lists.proofs.Loops.{keep-more, keep-take}
 use Rattle.sets.specs.Bits.{inSet, Put, TakenOut, Only, Marked, Lowest}
 use Rattle.sets.proofs.Laws as bits
 use Rattle.model.specs.State.{allows, mayRun}
-use Rattle.model.specs.Step.{leaves}
+use Rattle.model.specs.Step.{leaves, toTail}
 use Rattle.decision.specs.Leads.{topOf, anyOf, levelOf, leadIn, raisedBy, numbers, runnable}
 use Rattle.decision.specs.Keeping.{Right, RightAt, KeptIn, Stale, Left, Changed, Joins}
 use Rattle.decision.specs.declared.leads.Lead.{Lead}
 use Rattle.decision.proofs.LeadsKept.{lead-in}
-use Rattle.decision.proofs.ListLeads.{lead-more, lead-stop, keep-same, lead-same, lead-left, level-left, lead-above, lead-below, level-changed}
+use Rattle.decision.proofs.ListLeads.{lead-more, lead-stop, keep-same, lead-same, lead-left, level-left, lead-tail, level-tail, lead-above, lead-below, level-changed}
 
 -- ---- one partition
 
@@ -360,6 +361,47 @@ module _ (core : ℕ) (ps ns ms ps₀ ns₀ ms₀ : List ℕ) (t : ℕ) (same : 
     where
       p : ℕ
       p = getD ps₀ t 0
+
+-- what the line says after a thread went to its tail
+module _ (core : ℕ) (ps ns ms line tops firsts : List ℕ) (set₀ t : ℕ) (queued : member t line ≡ true) where
+  abbrev home : ℕ
+  home = getD ps t 0
+
+  left-first : home < 16 → KeptIn core ps ns ms line tops firsts set₀ → Left core ps ns ms (leaves line t) tops firsts set₀ home t
+  left-first low k = left-kept core ps ns ms ps ns ms t (λ u n. (refl, refl, refl)) line tops firsts set₀ low k
+
+  there : mine core ps ms home t ≡ true → member t (runnable core ps ms home line) ≡ true
+  unfolding runnable
+  there e = member-keep (mine core ps ms home) line t ∙ rw (queued, e)
+
+  pub tail-kept : home < 16 → KeptIn core ps ns ms line tops firsts set₀ → Left core ps ns ms (toTail line t) tops firsts set₀ home t
+  tail-kept low k = record {
+    wide = k .wide;
+    long = k .long;
+    others = λ q b n. unmoved core ps ns ms tops firsts set₀ t (leaves line t) q (not-mine core ps ns ms tops firsts set₀ t q (λ e. n (sym e))) (left-first low k .others q b n);
+    same = λ n. own (mine core ps ms home t) refl n;
+    below = high (mine core ps ms home t) refl;
+  }
+    where
+      l : List ℕ
+      l = runnable core ps ms home line
+
+      -- where the core may run it, it goes to the tail of its partition's threads
+      moved : mine core ps ms home t ≡ true → runnable core ps ms home (toTail line t) ≡ toTail l t
+      moved e =
+          runnable-in core ps ms home (leaves line t) t e
+          ∙ ap (λ (x : List ℕ). x ++ (t ∷ [])) (runnable-left core ps ns ms ps ns ms t (λ u n. (refl, refl, refl)) home line)
+
+      own : (z : Bool) → mine core ps ms home t ≡ z → getD firsts home 0 ≢ t → RightAt core ps ns ms (toTail line t) tops firsts set₀ home
+      own false e n = unmoved core ps ns ms tops firsts set₀ t (leaves line t) home e (left-first low k .same n)
+      own true e n =
+          let (x, y) = lead-tail (numbers ns) l t (there e) (λ w. n (k .right home low .thread ∙ w)) in
+          right-as (numbers ns) (numbers ns) l (runnable core ps ms home (toTail line t)) tops firsts set₀ home
+          (ap (leadIn (numbers ns)) (moved e) ∙ x) (ap anyOf (moved e) ∙ y) (k .right home low)
+
+      high : (z : Bool) → mine core ps ms home t ≡ z → levelOf (numbers ns) (runnable core ps ms home (toTail line t)) ≤ getD tops home 0
+      high false e = rw (runnable-out core ps ms home (leaves line t) t e) (left-first low k .below)
+      high true e = rw (moved e, k .right home low .top) (level-tail (numbers ns) l t (there e))
 
 -- ---- a priority changed
 

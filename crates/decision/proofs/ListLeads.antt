@@ -1,4 +1,5 @@
--- The lead of a list of threads: with one more at its end, with a rest that changes nothing, without a thread, with other priorities.
+-- The lead of a list of threads: with one more at its end, with a rest that changes nothing, without a thread, with a thread at its end instead,
+-- with other priorities.
 use mathlib.Core.Logic.{_≢_}
 use mathlib.Core.Path.{_≡_, refl, sym, ap, ap₂, subst, _∙_}
 use Prim.Native.Nat.{ℕ, _+_, _≤_, _<_}
@@ -11,7 +12,7 @@ use borrow.Author.Tests.{eq-eqb, ne-eqb, lt-ltb, le-ltb, ltb-true}
 use Rattle.lists.specs.Lists.{any, keep, first, maximum, member, consIf}
 use Rattle.lists.proofs.Tests.{clash, both}
 use Rattle.lists.proofs.All.{any-member, member-keep, maximum-high, maximum-found, keep-both}
-use Rattle.model.specs.Step.{leaves}
+use Rattle.model.specs.Step.{leaves, toTail}
 use Rattle.decision.specs.Leads.{topOf, leadOf, anyOf, levelOf, leadIn, raisedBy}
 use Rattle.decision.specs.declared.leads.Lead.{Lead}
 use Rattle.decision.proofs.LeadsKept.{lead-in, top-joined, lead-stays, lead-new, top-kept, lead-kept}
@@ -152,6 +153,29 @@ level-left f l t = go (anyOf (leaves l t)) refl
         let high = maximum-high f l (v .0) mine in
         rw some (omega (arith, high, v .2))
     go false e = omega arith
+
+-- ---- a thread of it at its end
+
+module _ (f : ℕ → ℕ) (l : List ℕ) (t : ℕ) (m : member t l ≡ true) where
+  own-level : f t + 1 ≤ levelOf f l
+  own-level = rw (level-some f l (any-member (λ x. true) l t m refl)) (omega (arith, maximum-high f l t m))
+
+  -- the lead stays, unless it is this thread
+  pub lead-tail : leadOf f l ≢ t → (leadIn f (toTail l t) ≡ leadIn f l) × (anyOf (toTail l t) ≡ anyOf l)
+  unfolding raisedBy
+  lead-tail n = (
+    lead-more f (leaves l t) t ∙ ap (λ (x : Lead). raisedBy x (f t) t) (lead-left f l t n .0)
+        ∙ ap (λ (z : Bool). cond z (lead (f t + 1) t) (leadIn f l)) (le-ltb (levelOf f l) (f t + 1) own-level),
+    any-joined (leaves l t) t ∙ sym (any-member (λ x. true) l t m refl),
+  )
+
+  -- the level is no higher
+  pub level-tail : levelOf f (toTail l t) ≤ levelOf f l
+  level-tail = rw (level-more f (leaves l t) t) (go (ltb (levelOf f (leaves l t)) (f t + 1)))
+    where
+      go : (z : Bool) → cond z (f t + 1) (levelOf f (leaves l t)) ≤ levelOf f l
+      go true = own-level
+      go false = level-left f l t
 
 -- ---- one priority changed
 

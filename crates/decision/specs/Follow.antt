@@ -2,6 +2,7 @@
 use mathlib.Core.Logic.{_≢_}
 use mathlib.Core.Path.{_≡_}
 use Prim.Native.Nat.{ℕ, _≤_, _<_}
+use mathlib.Core.Bool.{Bool, true, false}
 use mathlib.Core.List.{List}
 use lib.ListN.{length, getD, take}
 use Rattle.sheet.specs.declared.Settings.{Settings}
@@ -13,7 +14,7 @@ use Rattle.model.specs.Arrays.{Columns, columns, Regular, threadsIn, stateOf}
 use Rattle.model.specs.declared.Clock.{Clock}
 use Rattle.event.specs.Kinds.{kindNumber}
 use Rattle.event.specs.declared.kinds.Action.{Action}
-use Rattle.decision.specs.Keeping.{KeptIn, Lined, Changed}
+use Rattle.decision.specs.Keeping.{KeptIn, Lined, Left, Changed}
 
 -- a state as it stands in the arrays
 pub record Before : Type 0 where
@@ -28,7 +29,7 @@ stateBefore b = stateOf (b .settings) (b .totals) (b .clock) (b .threads) (b .qu
 
 -- the threads' columns, of which four are lent
 abbrev pub withLent : Columns → List ℕ → List ℕ → List ℕ → List ℕ → Columns
-withLent ts r p n m = columns (ts .exists) r p n m
+withLent ts r p n m = columns (ts .exists) r p n m (ts .policies) (ts .slices)
 
 -- the arrays hold the threads and the queue that the model's action gives from a settled state before, of whose threads the event names one that it
 -- may name, and of which the leads are kept; t is that thread, and p was its partition
@@ -56,3 +57,11 @@ pub record FollowedPriority (core : ℕ) (ready partitions priorities masks queu
   pub outside : getD ready t 0 ≢ 1 → KeptIn core partitions priorities masks (take queued queue) tops firsts set
   pub inside : getD ready t 0 ≡ 1
       → (t < 64) × Lined partitions queue queued core × Changed core partitions priorities masks (take queued queue) tops firsts set t
+
+-- what a tick leaves: by whether the slice of the running thread t ended, the leads are right, or it left its place in the line
+pub record FollowedTurn (core : ℕ) (partitions priorities masks queue : List ℕ) (queued : ℕ) (tops firsts : List ℕ) (set t : ℕ) (ended : Bool) : Type 0 where
+  pub stays : ended ≡ false → KeptIn core partitions priorities masks (take queued queue) tops firsts set
+  pub inside : ended ≡ true → t < 64
+  pub home : ended ≡ true → getD partitions t 0 < 16
+  pub walkable : ended ≡ true → Lined partitions queue queued core
+  pub moved : ended ≡ true → Left core partitions priorities masks (take queued queue) tops firsts set (getD partitions t 0) t

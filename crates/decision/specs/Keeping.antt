@@ -33,7 +33,7 @@ pub record Stale (core : ℕ) (partitions priorities masks line tops firsts : Li
   pub right : (p : ℕ) → p < 16 → inSet stale p ≡ false → RightAt core partitions priorities masks line tops firsts set p
   pub below : (p : ℕ) → p < 16 → inSet stale p ≡ true → levelOf (numbers priorities) (runnable core partitions masks p line) ≤ getD tops p 0
 
--- after thread t of partition p left the line
+-- after thread t of partition p left its place in the line
 pub record Left (core : ℕ) (partitions priorities masks line tops firsts : List ℕ) (set p t : ℕ) : Type 0 where
   pub wide : length tops ≡ 16
   pub long : length firsts ≡ 16

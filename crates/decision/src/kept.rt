@@ -3,7 +3,7 @@ ghost use lib.ListN.{take};
 ghost use Rattle.sheet.specs.Settings.{Limits};
 ghost use Prim.Native.Nat.{_<_};
 ghost use Rattle.decision.specs.Keeping.{KeptIn, Lined};
-ghost use Rattle.decision.specs.Follow.{Followed, FollowedPriority};
+ghost use Rattle.decision.specs.Follow.{Followed, FollowedPriority, FollowedTurn};
 ghost use Rattle.decision.specs.Upkeep.{Held, DecidesKept};
 use crate::leads;
 use accounts::solvency;
@@ -77,6 +77,47 @@ pub fn choose(
         sets.paying,
         sets.competing,
         sets.solvent,
+    )
+}
+
+// The leads after a tick whose running thread, where its slice ended, went to the tail of the queue.
+pub fn follow_turn(
+    tops: &mut [u16; 16],
+    firsts: &mut [u8; 16],
+    partitions: &[u8; 64],
+    priorities: &[u8; 64],
+    masks: &[u8; 64],
+    queue: &[u8; 64],
+    queued: u32,
+    core: u32,
+    competing: u16,
+    running: u32,
+    ended: bool,
+) -> u16
+    requires { ⌜
+        FollowedTurn core (now partitions) (now priorities) (now masks) (now queue) queued (now tops) (now firsts) competing running ended
+        ⌝ }
+    ensures { λ r. ⌜
+        KeptIn core (now (partitions .entry)) (now (priorities .entry)) (now (masks .entry)) (take queued (now (queue .entry)))
+        (now (tops .exit)) (now (firsts .exit)) r
+        ⌝ }
+{
+    if !ended {
+        return competing;
+    }
+    let p = partitions[running as usize];
+    leads::leave(
+        tops,
+        firsts,
+        partitions,
+        priorities,
+        masks,
+        queue,
+        queued,
+        core,
+        competing,
+        p,
+        running as u8,
     )
 }
 

@@ -174,7 +174,8 @@ pub fn renew(
     set
 }
 
-// Thread t of partition p has left the queue. Its partition is walked anew only if the thread was its first. Gives the set of competing partitions.
+// Thread t of partition p has left its place in the queue: it is no longer in it, or it went to its tail. Its partition is walked anew only if the
+// thread was its first. Gives the set of competing partitions.
 pub fn leave(
     tops: &mut [u16; 16],
     firsts: &mut [u8; 16],

@@ -55,6 +55,8 @@ fn answer(
     partitions: &mut [u8; 64],
     priorities: &mut [u8; 64],
     masks: &mut [u8; 64],
+    policies: &mut [u8; 64],
+    slices: &mut [u8; 64],
     queue: &mut [u8; 64],
     history: &mut [u32],
     events: &[u8],
@@ -73,6 +75,8 @@ fn answer(
         partitions,
         priorities,
         masks,
+        policies,
+        slices,
         queue,
         history,
         events,
@@ -98,6 +102,8 @@ fn serve_once(
     partitions: &mut [u8; 64],
     priorities: &mut [u8; 64],
     masks: &mut [u8; 64],
+    policies: &mut [u8; 64],
+    slices: &mut [u8; 64],
     queue: &mut [u8; 64],
     history: &mut [u32],
     events: &mut [u8],
@@ -119,6 +125,8 @@ fn serve_once(
             partitions,
             priorities,
             masks,
+            policies,
+            slices,
             queue,
             history,
             &events[..kept],
@@ -141,6 +149,8 @@ fn serve_once(
         partitions,
         priorities,
         masks,
+        policies,
+        slices,
         queue,
         history,
         &events[..whole],
@@ -164,6 +174,8 @@ fn serve(
     partitions: &mut [u8; 64],
     priorities: &mut [u8; 64],
     masks: &mut [u8; 64],
+    policies: &mut [u8; 64],
+    slices: &mut [u8; 64],
     queue: &mut [u8; 64],
     history: &mut [u32],
     events: &mut [u8],
@@ -184,6 +196,8 @@ fn serve(
             partitions,
             priorities,
             masks,
+            policies,
+            slices,
             queue,
             history,
             events,
@@ -212,6 +226,8 @@ fn main() {
     let mut partitions = [0u8; 64];
     let mut priorities = [0u8; 64];
     let mut masks = [0u8; 64];
+    let mut policies = [0u8; 64];
+    let mut slices = [0u8; 64];
     let mut queue = [0u8; 64];
     let mut history = [0u32; 6400];
     let outcome = doors::start::start(
@@ -225,6 +241,8 @@ fn main() {
         &mut partitions,
         &mut priorities,
         &mut masks,
+        &mut policies,
+        &mut slices,
         &mut queue,
         &mut history,
     );
@@ -246,6 +264,8 @@ fn main() {
                 &mut partitions,
                 &mut priorities,
                 &mut masks,
+                &mut policies,
+                &mut slices,
                 &mut queue,
                 &mut history,
                 &mut events,

@@ -21,17 +21,19 @@ fn enter(
     partitions: &mut [u8; 64],
     priorities: &mut [u8; 64],
     masks: &mut [u8; 64],
+    policies: &mut [u8; 64],
+    slices: &mut [u8; 64],
     queue: &mut [u8; 64],
     history: &mut [u32],
     c: Clock,
     events: &[u8],
     out: &mut [u8],
 ) -> Clock
-    requires { ⌜ Room settings (now used) (columns (now exists) (now ready) (now partitions) (now priorities) (now masks)) (now queue) × (refusedArrays settings (now used) c (columns (now exists) (now ready) (now partitions) (now priorities) (now masks)) (now queue) (now history) ≡ 0) ⌝ }
+    requires { ⌜ Room settings (now used) (columns (now exists) (now ready) (now partitions) (now priorities) (now masks) (now policies) (now slices)) (now queue) × (refusedArrays settings (now used) c (columns (now exists) (now ready) (now partitions) (now priorities) (now masks) (now policies) (now slices)) (now queue) (now history) ≡ 0) ⌝ }
     ensures { λ r. ⌜
-        Finished settings (now (used .entry)) c (columns (now (exists .entry)) (now (ready .entry)) (now (partitions .entry)) (now (priorities .entry)) (now (masks .entry))) (now (queue .entry)) (now (history .entry))
+        Finished settings (now (used .entry)) c (columns (now (exists .entry)) (now (ready .entry)) (now (partitions .entry)) (now (priorities .entry)) (now (masks .entry)) (now (policies .entry)) (now (slices .entry))) (now (queue .entry)) (now (history .entry))
         (now (events .entry)) (now (out .entry))
-        (now (used .exit)) r (columns (now (exists .exit)) (now (ready .exit)) (now (partitions .exit)) (now (priorities .exit)) (now (masks .exit))) (now (queue .exit)) (now (history .exit)) (now (out .exit))
+        (now (used .exit)) r (columns (now (exists .exit)) (now (ready .exit)) (now (partitions .exit)) (now (priorities .exit)) (now (masks .exit)) (now (policies .exit)) (now (slices .exit))) (now (queue .exit)) (now (history .exit)) (now (out .exit))
         ⌝ }
 {
     let records = (events.len() + 11) / 12;
@@ -59,6 +61,8 @@ fn enter(
         partitions,
         priorities,
         masks,
+        policies,
+        slices,
         queue,
         &budgets,
         &mut tops,
@@ -84,21 +88,33 @@ pub fn run(
     partitions: &mut [u8; 64],
     priorities: &mut [u8; 64],
     masks: &mut [u8; 64],
+    policies: &mut [u8; 64],
+    slices: &mut [u8; 64],
     queue: &mut [u8; 64],
     history: &mut [u32],
     events: &[u8],
     out: &mut [u8],
 ) -> Outcome
     ensures { λ r. ⌜
-        Ran (lent (now (settings .entry)) (now (shares .entry)) (now (used .entry)) (now (clock .entry)) (columns (now (exists .entry)) (now (ready .entry)) (now (partitions .entry)) (now (priorities .entry)) (now (masks .entry))) (now (queue .entry)) (now (history .entry)))
+        Ran (lent (now (settings .entry)) (now (shares .entry)) (now (used .entry)) (now (clock .entry)) (columns (now (exists .entry)) (now (ready .entry)) (now (partitions .entry)) (now (priorities .entry)) (now (masks .entry)) (now (policies .entry)) (now (slices .entry))) (now (queue .entry)) (now (history .entry)))
         (now (events .entry)) (now (out .entry)) (outcomeOf r)
-        (lent (now (settings .entry)) (now (shares .entry)) (now (used .exit)) (now (clock .exit)) (columns (now (exists .exit)) (now (ready .exit)) (now (partitions .exit)) (now (priorities .exit)) (now (masks .exit))) (now (queue .exit)) (now (history .exit)))
+        (lent (now (settings .entry)) (now (shares .entry)) (now (used .exit)) (now (clock .exit)) (columns (now (exists .exit)) (now (ready .exit)) (now (partitions .exit)) (now (priorities .exit)) (now (masks .exit)) (now (policies .exit)) (now (slices .exit))) (now (queue .exit)) (now (history .exit)))
         (now (out .exit))
         ⌝ }
 {
     let s = words::settings_in(settings, shares);
     let c = words::clock_in(clock);
-    words::sized(used, exists, ready, partitions, priorities, masks, queue);
+    words::sized(
+        used,
+        exists,
+        ready,
+        partitions,
+        priorities,
+        masks,
+        policies,
+        slices,
+        queue,
+    );
     let outcome = soundness::refused_state(
         s,
         used,
@@ -107,6 +123,8 @@ pub fn run(
         partitions,
         priorities,
         masks,
+        policies,
+        slices,
         queue,
         c,
         &history[..],
@@ -122,6 +140,8 @@ pub fn run(
                 partitions,
                 priorities,
                 masks,
+                policies,
+                slices,
                 queue,
                 history,
                 c,

@@ -25,14 +25,26 @@ pub fn decision(
     partitions: &[u8; 64],
     priorities: &[u8; 64],
     masks: &[u8; 64],
+    policies: &[u8; 64],
+    slices: &[u8; 64],
     queue: &[u8; 64],
     history: &[u32],
 ) -> Verdict
-    ensures { λ r. ⌜ lineOf r ≡ Doors.decision (lent (now (settings .entry)) (now (shares .entry)) (now (used .entry)) (now (clock .entry)) (columns (now (exists .entry)) (now (ready .entry)) (now (partitions .entry)) (now (priorities .entry)) (now (masks .entry))) (now (queue .entry)) (now (history .entry))) ⌝ }
+    ensures { λ r. ⌜ lineOf r ≡ Doors.decision (lent (now (settings .entry)) (now (shares .entry)) (now (used .entry)) (now (clock .entry)) (columns (now (exists .entry)) (now (ready .entry)) (now (partitions .entry)) (now (priorities .entry)) (now (masks .entry)) (now (policies .entry)) (now (slices .entry))) (now (queue .entry)) (now (history .entry))) ⌝ }
 {
     let s = words::settings_in(settings, shares);
     let c = words::clock_in(clock);
-    words::sized(used, exists, ready, partitions, priorities, masks, queue);
+    words::sized(
+        used,
+        exists,
+        ready,
+        partitions,
+        priorities,
+        masks,
+        policies,
+        slices,
+        queue,
+    );
     let outcome = soundness::refused_state(
         s,
         used,
@@ -41,6 +53,8 @@ pub fn decision(
         partitions,
         priorities,
         masks,
+        policies,
+        slices,
         queue,
         c,
         history,
@@ -80,11 +94,13 @@ pub fn remaining(
     partitions: &[u8; 64],
     priorities: &[u8; 64],
     masks: &[u8; 64],
+    policies: &[u8; 64],
+    slices: &[u8; 64],
     queue: &[u8; 64],
     history: &[u32],
     partition: u32,
 ) -> Balance
-    ensures { λ r. ⌜ remainderOf r ≡ Doors.remainder (lent (now (settings .entry)) (now (shares .entry)) (now (used .entry)) (now (clock .entry)) (columns (now (exists .entry)) (now (ready .entry)) (now (partitions .entry)) (now (priorities .entry)) (now (masks .entry))) (now (queue .entry)) (now (history .entry))) partition ⌝ }
+    ensures { λ r. ⌜ remainderOf r ≡ Doors.remainder (lent (now (settings .entry)) (now (shares .entry)) (now (used .entry)) (now (clock .entry)) (columns (now (exists .entry)) (now (ready .entry)) (now (partitions .entry)) (now (priorities .entry)) (now (masks .entry)) (now (policies .entry)) (now (slices .entry))) (now (queue .entry)) (now (history .entry))) partition ⌝ }
 {
     let s = words::settings_in(settings, shares);
     let c = words::clock_in(clock);
@@ -96,6 +112,8 @@ pub fn remaining(
         partitions,
         priorities,
         masks,
+        policies,
+        slices,
         queue,
         c,
         history,

@@ -28,16 +28,18 @@ fn enter(
     partitions: &mut [u8; 64],
     priorities: &mut [u8; 64],
     masks: &mut [u8; 64],
+    policies: &mut [u8; 64],
+    slices: &mut [u8; 64],
     queue: &mut [u8; 64],
     history: &mut [u32],
     c: Clock,
     event: &[u8],
 ) -> Reply
-    requires { ⌜ Room settings (now used) (columns (now exists) (now ready) (now partitions) (now priorities) (now masks)) (now queue) × (refusedArrays settings (now used) c (columns (now exists) (now ready) (now partitions) (now priorities) (now masks)) (now queue) (now history) ≡ 0) ⌝ }
+    requires { ⌜ Room settings (now used) (columns (now exists) (now ready) (now partitions) (now priorities) (now masks) (now policies) (now slices)) (now queue) × (refusedArrays settings (now used) c (columns (now exists) (now ready) (now partitions) (now priorities) (now masks) (now policies) (now slices)) (now queue) (now history) ≡ 0) ⌝ }
     ensures { λ r. ⌜
-        Entered settings (now (used .entry)) c (columns (now (exists .entry)) (now (ready .entry)) (now (partitions .entry)) (now (priorities .entry)) (now (masks .entry))) (now (queue .entry)) (now (history .entry))
+        Entered settings (now (used .entry)) c (columns (now (exists .entry)) (now (ready .entry)) (now (partitions .entry)) (now (priorities .entry)) (now (masks .entry)) (now (policies .entry)) (now (slices .entry))) (now (queue .entry)) (now (history .entry))
         (now (event .entry)) (r .verdict)
-        (now (used .exit)) (r .clock) (columns (now (exists .exit)) (now (ready .exit)) (now (partitions .exit)) (now (priorities .exit)) (now (masks .exit))) (now (queue .exit)) (now (history .exit))
+        (now (used .exit)) (r .clock) (columns (now (exists .exit)) (now (ready .exit)) (now (partitions .exit)) (now (priorities .exit)) (now (masks .exit)) (now (policies .exit)) (now (slices .exit))) (now (queue .exit)) (now (history .exit))
         ⌝ }
 {
     let mut budgets = [0u32; 16];
@@ -63,6 +65,8 @@ fn enter(
         partitions,
         priorities,
         masks,
+        policies,
+        slices,
         queue,
         &budgets,
         &mut tops,
@@ -92,19 +96,31 @@ pub fn event(
     partitions: &mut [u8; 64],
     priorities: &mut [u8; 64],
     masks: &mut [u8; 64],
+    policies: &mut [u8; 64],
+    slices: &mut [u8; 64],
     queue: &mut [u8; 64],
     history: &mut [u32],
     event: &[u8],
 ) -> Verdict
     ensures { λ r. ⌜
-        Answered (lent (now (settings .entry)) (now (shares .entry)) (now (used .entry)) (now (clock .entry)) (columns (now (exists .entry)) (now (ready .entry)) (now (partitions .entry)) (now (priorities .entry)) (now (masks .entry))) (now (queue .entry)) (now (history .entry)))
+        Answered (lent (now (settings .entry)) (now (shares .entry)) (now (used .entry)) (now (clock .entry)) (columns (now (exists .entry)) (now (ready .entry)) (now (partitions .entry)) (now (priorities .entry)) (now (masks .entry)) (now (policies .entry)) (now (slices .entry))) (now (queue .entry)) (now (history .entry)))
         (now (event .entry)) (lineOf r)
-        (lent (now (settings .entry)) (now (shares .entry)) (now (used .exit)) (now (clock .exit)) (columns (now (exists .exit)) (now (ready .exit)) (now (partitions .exit)) (now (priorities .exit)) (now (masks .exit))) (now (queue .exit)) (now (history .exit)))
+        (lent (now (settings .entry)) (now (shares .entry)) (now (used .exit)) (now (clock .exit)) (columns (now (exists .exit)) (now (ready .exit)) (now (partitions .exit)) (now (priorities .exit)) (now (masks .exit)) (now (policies .exit)) (now (slices .exit))) (now (queue .exit)) (now (history .exit)))
         ⌝ }
 {
     let s = words::settings_in(settings, shares);
     let c = words::clock_in(clock);
-    words::sized(used, exists, ready, partitions, priorities, masks, queue);
+    words::sized(
+        used,
+        exists,
+        ready,
+        partitions,
+        priorities,
+        masks,
+        policies,
+        slices,
+        queue,
+    );
     let outcome = soundness::refused_state(
         s,
         used,
@@ -113,6 +129,8 @@ pub fn event(
         partitions,
         priorities,
         masks,
+        policies,
+        slices,
         queue,
         c,
         &history[..],
@@ -128,6 +146,8 @@ pub fn event(
                 partitions,
                 priorities,
                 masks,
+                policies,
+                slices,
                 queue,
                 history,
                 c,

@@ -26,11 +26,13 @@ fn begin(
     partitions: &mut [u8; 64],
     priorities: &mut [u8; 64],
     masks: &mut [u8; 64],
+    policies: &mut [u8; 64],
+    slices: &mut [u8; 64],
     queue: &mut [u8; 64],
     history: &mut [u32],
 )
     requires { ⌜ (length (s .shares) ≡ 16) × (s .count * W s ≤ length (now history)) ⌝ }
-    ensures { λ _. ⌜ Fresh s (now (history .entry)) (lent (now (settings .exit)) (now (shares .exit)) (now (used .exit)) (now (clock .exit)) (columns (now (exists .exit)) (now (ready .exit)) (now (partitions .exit)) (now (priorities .exit)) (now (masks .exit))) (now (queue .exit)) (now (history .exit))) ⌝ }
+    ensures { λ _. ⌜ Fresh s (now (history .entry)) (lent (now (settings .exit)) (now (shares .exit)) (now (used .exit)) (now (clock .exit)) (columns (now (exists .exit)) (now (ready .exit)) (now (partitions .exit)) (now (priorities .exit)) (now (masks .exit)) (now (policies .exit)) (now (slices .exit))) (now (queue .exit)) (now (history .exit))) ⌝ }
 {
     let window = s.window;
     history::clear_rows(history, window, s.count);
@@ -42,6 +44,8 @@ fn begin(
     *partitions = [0u8; 64];
     *priorities = [0u8; 64];
     *masks = [0u8; 64];
+    *policies = [0u8; 64];
+    *slices = [0u8; 64];
     *queue = [0u8; 64];
 }
 
@@ -57,13 +61,15 @@ pub fn start(
     partitions: &mut [u8; 64],
     priorities: &mut [u8; 64],
     masks: &mut [u8; 64],
+    policies: &mut [u8; 64],
+    slices: &mut [u8; 64],
     queue: &mut [u8; 64],
     history: &mut [u32],
 ) -> Outcome
     ensures { λ r. ⌜
-        Begun (lent (now (settings .entry)) (now (shares .entry)) (now (used .entry)) (now (clock .entry)) (columns (now (exists .entry)) (now (ready .entry)) (now (partitions .entry)) (now (priorities .entry)) (now (masks .entry))) (now (queue .entry)) (now (history .entry)))
+        Begun (lent (now (settings .entry)) (now (shares .entry)) (now (used .entry)) (now (clock .entry)) (columns (now (exists .entry)) (now (ready .entry)) (now (partitions .entry)) (now (priorities .entry)) (now (masks .entry)) (now (policies .entry)) (now (slices .entry))) (now (queue .entry)) (now (history .entry)))
         (now (sheet .entry)) (outcomeOf r)
-        (lent (now (settings .exit)) (now (shares .exit)) (now (used .exit)) (now (clock .exit)) (columns (now (exists .exit)) (now (ready .exit)) (now (partitions .exit)) (now (priorities .exit)) (now (masks .exit))) (now (queue .exit)) (now (history .exit)))
+        (lent (now (settings .exit)) (now (shares .exit)) (now (used .exit)) (now (clock .exit)) (columns (now (exists .exit)) (now (ready .exit)) (now (partitions .exit)) (now (priorities .exit)) (now (masks .exit)) (now (policies .exit)) (now (slices .exit))) (now (queue .exit)) (now (history .exit)))
         ⌝ }
 {
     let reading = sheet::read_sheet(sheet);
@@ -87,6 +93,8 @@ pub fn start(
                 partitions,
                 priorities,
                 masks,
+                policies,
+                slices,
                 queue,
                 history,
             );

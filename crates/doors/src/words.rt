@@ -132,11 +132,13 @@ pub fn sized(
     partitions: &[u8; 64],
     priorities: &[u8; 64],
     masks: &[u8; 64],
+    policies: &[u8; 64],
+    slices: &[u8; 64],
     queue: &[u8; 64],
 )
     ensures { λ _. ⌜
         (length (now (used .entry)) ≡ 16) × (length (now (queue .entry)) ≡ 64)
-        × Sized (columns (now (exists .entry)) (now (ready .entry)) (now (partitions .entry)) (now (priorities .entry)) (now (masks .entry)))
+        × Sized (columns (now (exists .entry)) (now (ready .entry)) (now (partitions .entry)) (now (priorities .entry)) (now (masks .entry)) (now (policies .entry)) (now (slices .entry)))
         ⌝ }
 {
     let u = *used;
@@ -151,6 +153,10 @@ pub fn sized(
     let n1 = bytes_of(n);
     let m = *masks;
     let m1 = bytes_of(m);
+    let o = *policies;
+    let o1 = bytes_of(o);
+    let l = *slices;
+    let l1 = bytes_of(l);
     let q = *queue;
     let q1 = bytes_of(q);
 }

@@ -29,13 +29,15 @@ pub extern "C" fn saplingloft_lent_start(
     partitions: &mut [u8; 64],
     priorities: &mut [u8; 64],
     masks: &mut [u8; 64],
+    policies: &mut [u8; 64],
+    slices: &mut [u8; 64],
     queue: &mut [u8; 64],
     history: &mut [u32],
 ) -> u32
     ensures { λ r. ⌜
-        Begun (lent (now (settings .entry)) (now (shares .entry)) (now (used .entry)) (now (clock .entry)) (columns (now (exists .entry)) (now (ready .entry)) (now (partitions .entry)) (now (priorities .entry)) (now (masks .entry))) (now (queue .entry)) (now (history .entry)))
+        Begun (lent (now (settings .entry)) (now (shares .entry)) (now (used .entry)) (now (clock .entry)) (columns (now (exists .entry)) (now (ready .entry)) (now (partitions .entry)) (now (priorities .entry)) (now (masks .entry)) (now (policies .entry)) (now (slices .entry))) (now (queue .entry)) (now (history .entry)))
         (now (sheet .entry)) r
-        (lent (now (settings .exit)) (now (shares .exit)) (now (used .exit)) (now (clock .exit)) (columns (now (exists .exit)) (now (ready .exit)) (now (partitions .exit)) (now (priorities .exit)) (now (masks .exit))) (now (queue .exit)) (now (history .exit)))
+        (lent (now (settings .exit)) (now (shares .exit)) (now (used .exit)) (now (clock .exit)) (columns (now (exists .exit)) (now (ready .exit)) (now (partitions .exit)) (now (priorities .exit)) (now (masks .exit)) (now (policies .exit)) (now (slices .exit))) (now (queue .exit)) (now (history .exit)))
         ⌝ }
 {
     let outcome = doors::start::start(
@@ -49,6 +51,8 @@ pub extern "C" fn saplingloft_lent_start(
         partitions,
         priorities,
         masks,
+        policies,
+        slices,
         queue,
         history,
     );
@@ -67,14 +71,16 @@ pub extern "C" fn saplingloft_lent_event(
     partitions: &mut [u8; 64],
     priorities: &mut [u8; 64],
     masks: &mut [u8; 64],
+    policies: &mut [u8; 64],
+    slices: &mut [u8; 64],
     queue: &mut [u8; 64],
     history: &mut [u32],
     event: &[u8],
 ) -> u32
     ensures { λ r. ⌜
-        Answered (lent (now (settings .entry)) (now (shares .entry)) (now (used .entry)) (now (clock .entry)) (columns (now (exists .entry)) (now (ready .entry)) (now (partitions .entry)) (now (priorities .entry)) (now (masks .entry))) (now (queue .entry)) (now (history .entry)))
+        Answered (lent (now (settings .entry)) (now (shares .entry)) (now (used .entry)) (now (clock .entry)) (columns (now (exists .entry)) (now (ready .entry)) (now (partitions .entry)) (now (priorities .entry)) (now (masks .entry)) (now (policies .entry)) (now (slices .entry))) (now (queue .entry)) (now (history .entry)))
         (now (event .entry)) (unpacked r)
-        (lent (now (settings .entry)) (now (shares .entry)) (now (used .exit)) (now (clock .exit)) (columns (now (exists .exit)) (now (ready .exit)) (now (partitions .exit)) (now (priorities .exit)) (now (masks .exit))) (now (queue .exit)) (now (history .exit)))
+        (lent (now (settings .entry)) (now (shares .entry)) (now (used .exit)) (now (clock .exit)) (columns (now (exists .exit)) (now (ready .exit)) (now (partitions .exit)) (now (priorities .exit)) (now (masks .exit)) (now (policies .exit)) (now (slices .exit))) (now (queue .exit)) (now (history .exit)))
         ⌝ }
 {
     let verdict = doors::single::event(
@@ -87,6 +93,8 @@ pub extern "C" fn saplingloft_lent_event(
         partitions,
         priorities,
         masks,
+        policies,
+        slices,
         queue,
         history,
         event,
@@ -106,10 +114,12 @@ pub extern "C" fn saplingloft_lent_decision(
     partitions: &[u8; 64],
     priorities: &[u8; 64],
     masks: &[u8; 64],
+    policies: &[u8; 64],
+    slices: &[u8; 64],
     queue: &[u8; 64],
     history: &[u32],
 ) -> u32
-    ensures { λ r. ⌜ unpacked r ≡ Doors.decision (lent (now (settings .entry)) (now (shares .entry)) (now (used .entry)) (now (clock .entry)) (columns (now (exists .entry)) (now (ready .entry)) (now (partitions .entry)) (now (priorities .entry)) (now (masks .entry))) (now (queue .entry)) (now (history .entry))) ⌝ }
+    ensures { λ r. ⌜ unpacked r ≡ Doors.decision (lent (now (settings .entry)) (now (shares .entry)) (now (used .entry)) (now (clock .entry)) (columns (now (exists .entry)) (now (ready .entry)) (now (partitions .entry)) (now (priorities .entry)) (now (masks .entry)) (now (policies .entry)) (now (slices .entry))) (now (queue .entry)) (now (history .entry))) ⌝ }
 {
     let verdict = doors::queries::decision(
         settings,
@@ -121,6 +131,8 @@ pub extern "C" fn saplingloft_lent_decision(
         partitions,
         priorities,
         masks,
+        policies,
+        slices,
         queue,
         history,
     );
@@ -154,6 +166,8 @@ pub extern "C" fn saplingloft_lent_remaining(
     partitions: &[u8; 64],
     priorities: &[u8; 64],
     masks: &[u8; 64],
+    policies: &[u8; 64],
+    slices: &[u8; 64],
     queue: &[u8; 64],
     history: &[u32],
     partition: u32,
@@ -161,7 +175,7 @@ pub extern "C" fn saplingloft_lent_remaining(
 ) -> u32
     ensures { λ r. ⌜
         RemainderTold
-        (Doors.remainder (lent (now (settings .entry)) (now (shares .entry)) (now (used .entry)) (now (clock .entry)) (columns (now (exists .entry)) (now (ready .entry)) (now (partitions .entry)) (now (priorities .entry)) (now (masks .entry))) (now (queue .entry)) (now (history .entry))) partition)
+        (Doors.remainder (lent (now (settings .entry)) (now (shares .entry)) (now (used .entry)) (now (clock .entry)) (columns (now (exists .entry)) (now (ready .entry)) (now (partitions .entry)) (now (priorities .entry)) (now (masks .entry)) (now (policies .entry)) (now (slices .entry))) (now (queue .entry)) (now (history .entry))) partition)
         (now (remaining .entry)) r (now (remaining .exit))
         ⌝ }
 {
@@ -175,6 +189,8 @@ pub extern "C" fn saplingloft_lent_remaining(
         partitions,
         priorities,
         masks,
+        policies,
+        slices,
         queue,
         history,
         partition,

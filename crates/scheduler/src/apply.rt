@@ -8,6 +8,7 @@ use event::kinds::Action;
 use model::Clock;
 use sheet::Settings;
 use threads::actions;
+use threads::turns;
 ghost use mathlib.Core.Path.{_≡_};
 ghost use mathlib.Core.Logic.{_≢_};
 ghost use Rattle.model.specs.Arrays.{columns, stateOf};
@@ -24,8 +25,8 @@ pub struct Done {
     pub sets: Sets,
 }
 
-// A tick: the charge, and the move to the next slot.
-fn tick(
+// The charge of a tick, and the move to the next slot.
+fn advance(
     settings: Settings,
     used: &mut [u32; 16],
     budgets: &[u32; 16],
@@ -55,15 +56,17 @@ fn tick(
     window::move_slot(settings, used, budgets, history, clock, paid.solvent)
 }
 
-// The other kinds but a resume: the charge, the action, and the leads after it.
-fn work(
+// A tick: the charge, the move to the next slot, and the running thread's slice, with the leads after it.
+fn tick(
     settings: Settings,
     used: &mut [u32; 16],
-    exists: &mut [u8; 64],
-    ready: &mut [u8; 64],
-    partitions: &mut [u8; 64],
-    priorities: &mut [u8; 64],
-    masks: &mut [u8; 64],
+    exists: &[u8; 64],
+    ready: &[u8; 64],
+    partitions: &[u8; 64],
+    priorities: &[u8; 64],
+    masks: &[u8; 64],
+    policies: &[u8; 64],
+    slices: &mut [u8; 64],
     queue: &mut [u8; 64],
     budgets: &[u32; 16],
     tops: &mut [u16; 16],
@@ -73,11 +76,66 @@ fn work(
     sets: Sets,
     event: Event,
 ) -> Done
-    requires { ⌜ Ready settings (now used) c (columns (now exists) (now ready) (now partitions) (now priorities) (now masks)) (now queue) (now history) (now budgets) (now tops) (now firsts) sets event × (kindOf (bytesOf event) ≢ 1) × (kindOf (bytesOf event) ≢ 7) ⌝ }
+    requires { ⌜ Ready settings (now used) c (columns (now exists) (now ready) (now partitions) (now priorities) (now masks) (now policies) (now slices)) (now queue) (now history) (now budgets) (now tops) (now firsts) sets event × (kindOf (bytesOf event) ≡ 1) ⌝ }
     ensures { λ r. ⌜
         Applied settings
-        (saved (stateOf settings (now (used .entry)) c (columns (now (exists .entry)) (now (ready .entry)) (now (partitions .entry)) (now (priorities .entry)) (now (masks .entry))) (now (queue .entry))) (now (history .entry)))
-        (now (used .exit)) (r .clock) (columns (now (exists .exit)) (now (ready .exit)) (now (partitions .exit)) (now (priorities .exit)) (now (masks .exit))) (now (queue .exit)) (now (history .exit)) (now (budgets .entry)) (now (tops .exit)) (now (firsts .exit)) (r .sets)
+        (saved (stateOf settings (now (used .entry)) c (columns (now (exists .entry)) (now (ready .entry)) (now (partitions .entry)) (now (priorities .entry)) (now (masks .entry)) (now (policies .entry)) (now (slices .entry))) (now (queue .entry))) (now (history .entry)))
+        (now (used .exit)) (r .clock) (columns (now (exists .entry)) (now (ready .entry)) (now (partitions .entry)) (now (priorities .entry)) (now (masks .entry)) (now (policies .entry)) (now (slices .exit))) (now (queue .exit)) (now (history .exit)) (now (budgets .entry)) (now (tops .exit)) (now (firsts .exit)) (r .sets)
+        (bytesOf event)
+        ⌝ }
+{
+    let account = advance(
+        settings,
+        used,
+        budgets,
+        partitions,
+        history,
+        c,
+        sets.solvent,
+        event.stamp,
+    );
+    let ended = turns::turn(policies, slices, queue, c.queued, c.running);
+    let competing = kept::follow_turn(
+        tops,
+        firsts,
+        partitions,
+        priorities,
+        masks,
+        queue,
+        c.queued,
+        settings.core,
+        sets.competing,
+        c.running,
+        ended,
+    );
+    finish(account, sets.paying, competing)
+}
+
+// The other kinds but a resume: the charge, the action, and the leads after it.
+fn work(
+    settings: Settings,
+    used: &mut [u32; 16],
+    exists: &mut [u8; 64],
+    ready: &mut [u8; 64],
+    partitions: &mut [u8; 64],
+    priorities: &mut [u8; 64],
+    masks: &mut [u8; 64],
+    policies: &mut [u8; 64],
+    slices: &mut [u8; 64],
+    queue: &mut [u8; 64],
+    budgets: &[u32; 16],
+    tops: &mut [u16; 16],
+    firsts: &mut [u8; 16],
+    history: &mut [u32],
+    c: Clock,
+    sets: Sets,
+    event: Event,
+) -> Done
+    requires { ⌜ Ready settings (now used) c (columns (now exists) (now ready) (now partitions) (now priorities) (now masks) (now policies) (now slices)) (now queue) (now history) (now budgets) (now tops) (now firsts) sets event × (kindOf (bytesOf event) ≢ 1) × (kindOf (bytesOf event) ≢ 7) ⌝ }
+    ensures { λ r. ⌜
+        Applied settings
+        (saved (stateOf settings (now (used .entry)) c (columns (now (exists .entry)) (now (ready .entry)) (now (partitions .entry)) (now (priorities .entry)) (now (masks .entry)) (now (policies .entry)) (now (slices .entry))) (now (queue .entry))) (now (history .entry)))
+        (now (used .exit)) (r .clock) (columns (now (exists .exit)) (now (ready .exit)) (now (partitions .exit)) (now (priorities .exit)) (now (masks .exit)) (now (policies .exit)) (now (slices .exit))) (now (queue .exit)) (now (history .exit)) (now (budgets .entry)) (now (tops .exit)) (now (firsts .exit)) (r .sets)
         (bytesOf event)
         ⌝ }
 {
@@ -99,6 +157,8 @@ fn work(
         partitions,
         priorities,
         masks,
+        policies,
+        slices,
         queue,
         c.queued,
         event,
@@ -140,14 +200,14 @@ fn work(
     }
 }
 
-// Nothing that is kept changes but who has budget.
-fn finish(account: Account, sets: Sets) -> Done
-    ensures { λ r. ⌜ r ≡ record { clock = account .clock; sets = record { paying = sets .paying; competing = sets .competing; solvent = account .solvent } } ⌝ }
+// The clock after it, and the sets: who has budget after it, and who competes.
+fn finish(account: Account, paying: u16, competing: u16) -> Done
+    ensures { λ r. ⌜ r ≡ record { clock = account .clock; sets = record { paying = paying; competing = competing; solvent = account .solvent } } ⌝ }
 {
     let clock = account.clock;
     let after = Sets {
-        paying: sets.paying,
-        competing: sets.competing,
+        paying: paying,
+        competing: competing,
         solvent: account.solvent,
     };
     Done {
@@ -165,6 +225,8 @@ pub fn apply(
     partitions: &mut [u8; 64],
     priorities: &mut [u8; 64],
     masks: &mut [u8; 64],
+    policies: &mut [u8; 64],
+    slices: &mut [u8; 64],
     queue: &mut [u8; 64],
     budgets: &[u32; 16],
     tops: &mut [u16; 16],
@@ -174,32 +236,38 @@ pub fn apply(
     sets: Sets,
     event: Event,
 ) -> Done
-    requires { ⌜ Ready settings (now used) c (columns (now exists) (now ready) (now partitions) (now priorities) (now masks)) (now queue) (now history) (now budgets) (now tops) (now firsts) sets event ⌝ }
+    requires { ⌜ Ready settings (now used) c (columns (now exists) (now ready) (now partitions) (now priorities) (now masks) (now policies) (now slices)) (now queue) (now history) (now budgets) (now tops) (now firsts) sets event ⌝ }
     ensures { λ r. ⌜
         Applied settings
-        (saved (stateOf settings (now (used .entry)) c (columns (now (exists .entry)) (now (ready .entry)) (now (partitions .entry)) (now (priorities .entry)) (now (masks .entry))) (now (queue .entry))) (now (history .entry)))
-        (now (used .exit)) (r .clock) (columns (now (exists .exit)) (now (ready .exit)) (now (partitions .exit)) (now (priorities .exit)) (now (masks .exit))) (now (queue .exit)) (now (history .exit)) (now (budgets .entry)) (now (tops .exit)) (now (firsts .exit)) (r .sets)
+        (saved (stateOf settings (now (used .entry)) c (columns (now (exists .entry)) (now (ready .entry)) (now (partitions .entry)) (now (priorities .entry)) (now (masks .entry)) (now (policies .entry)) (now (slices .entry))) (now (queue .entry))) (now (history .entry)))
+        (now (used .exit)) (r .clock) (columns (now (exists .exit)) (now (ready .exit)) (now (partitions .exit)) (now (priorities .exit)) (now (masks .exit)) (now (policies .exit)) (now (slices .exit))) (now (queue .exit)) (now (history .exit)) (now (budgets .entry)) (now (tops .exit)) (now (firsts .exit)) (r .sets)
         (bytesOf event)
         ⌝ }
 {
     let action = event.action;
     match action {
-        Action::Tick => {
-            let a = tick(
-                settings,
-                used,
-                budgets,
-                partitions,
-                history,
-                c,
-                sets.solvent,
-                event.stamp,
-            );
-            finish(a, sets)
-        }
+        Action::Tick => tick(
+            settings,
+            used,
+            exists,
+            ready,
+            partitions,
+            priorities,
+            masks,
+            policies,
+            slices,
+            queue,
+            budgets,
+            tops,
+            firsts,
+            history,
+            c,
+            sets,
+            event,
+        ),
         Action::Resume => {
             let a = window::restart(settings, used, budgets, history, c, event.stamp);
-            finish(a, sets)
+            finish(a, sets.paying, sets.competing)
         }
         _ => work(
             settings,
@@ -209,6 +277,8 @@ pub fn apply(
             partitions,
             priorities,
             masks,
+            policies,
+            slices,
             queue,
             budgets,
             tops,

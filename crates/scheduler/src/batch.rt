@@ -32,6 +32,8 @@ pub fn steps(
     partitions: &mut [u8; 64],
     priorities: &mut [u8; 64],
     masks: &mut [u8; 64],
+    policies: &mut [u8; 64],
+    slices: &mut [u8; 64],
     queue: &mut [u8; 64],
     budgets: &[u32; 16],
     tops: &mut [u16; 16],
@@ -43,11 +45,11 @@ pub fn steps(
     out: &mut [u8],
     n: usize,
 ) -> Clock
-    requires { ⌜ Whole settings (now used) c (columns (now exists) (now ready) (now partitions) (now priorities) (now masks)) (now queue) (now history) (now budgets) (now tops) (now firsts) sets × (n ≤ eventCount (now events)) × (12 * n ≤ length (now out)) ⌝ }
+    requires { ⌜ Whole settings (now used) c (columns (now exists) (now ready) (now partitions) (now priorities) (now masks) (now policies) (now slices)) (now queue) (now history) (now budgets) (now tops) (now firsts) sets × (n ≤ eventCount (now events)) × (12 * n ≤ length (now out)) ⌝ }
     ensures { λ r. ⌜
-        (saved (stateOf settings (now (used .exit)) r (columns (now (exists .exit)) (now (ready .exit)) (now (partitions .exit)) (now (priorities .exit)) (now (masks .exit))) (now (queue .exit))) (now (history .exit)) ≡ Run.after (saved (stateOf settings (now (used .entry)) c (columns (now (exists .entry)) (now (ready .entry)) (now (partitions .entry)) (now (priorities .entry)) (now (masks .entry))) (now (queue .entry))) (now (history .entry))) (eventsIn (now (events .entry)) n))
-        × (now (out .exit) ≡ linesOf (Run.run (saved (stateOf settings (now (used .entry)) c (columns (now (exists .entry)) (now (ready .entry)) (now (partitions .entry)) (now (priorities .entry)) (now (masks .entry))) (now (queue .entry))) (now (history .entry))) (eventsIn (now (events .entry)) n)) ++ drop (12 * n) (now (out .entry)))
-        × (refusedArrays settings (now (used .exit)) r (columns (now (exists .exit)) (now (ready .exit)) (now (partitions .exit)) (now (priorities .exit)) (now (masks .exit))) (now (queue .exit)) (now (history .exit)) ≡ 0)
+        (saved (stateOf settings (now (used .exit)) r (columns (now (exists .exit)) (now (ready .exit)) (now (partitions .exit)) (now (priorities .exit)) (now (masks .exit)) (now (policies .exit)) (now (slices .exit))) (now (queue .exit))) (now (history .exit)) ≡ Run.after (saved (stateOf settings (now (used .entry)) c (columns (now (exists .entry)) (now (ready .entry)) (now (partitions .entry)) (now (priorities .entry)) (now (masks .entry)) (now (policies .entry)) (now (slices .entry))) (now (queue .entry))) (now (history .entry))) (eventsIn (now (events .entry)) n))
+        × (now (out .exit) ≡ linesOf (Run.run (saved (stateOf settings (now (used .entry)) c (columns (now (exists .entry)) (now (ready .entry)) (now (partitions .entry)) (now (priorities .entry)) (now (masks .entry)) (now (policies .entry)) (now (slices .entry))) (now (queue .entry))) (now (history .entry))) (eventsIn (now (events .entry)) n)) ++ drop (12 * n) (now (out .entry)))
+        × (refusedArrays settings (now (used .exit)) r (columns (now (exists .exit)) (now (ready .exit)) (now (partitions .exit)) (now (priorities .exit)) (now (masks .exit)) (now (policies .exit)) (now (slices .exit))) (now (queue .exit)) (now (history .exit)) ≡ 0)
         ⌝ }
 {
     let mut t = c;
@@ -65,6 +67,8 @@ pub fn steps(
             partitions,
             priorities,
             masks,
+            policies,
+            slices,
             queue,
             budgets,
             tops,

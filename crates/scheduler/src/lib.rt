@@ -33,6 +33,8 @@ fn accept(
     partitions: &mut [u8; 64],
     priorities: &mut [u8; 64],
     masks: &mut [u8; 64],
+    policies: &mut [u8; 64],
+    slices: &mut [u8; 64],
     queue: &mut [u8; 64],
     budgets: &[u32; 16],
     tops: &mut [u16; 16],
@@ -42,13 +44,13 @@ fn accept(
     sets: Sets,
     event: Event,
 ) -> Stepped
-    requires { ⌜ Whole settings (now used) c (columns (now exists) (now ready) (now partitions) (now priorities) (now masks)) (now queue) (now history) (now budgets) (now tops) (now firsts) sets × (refused (stateOf settings (now used) c (columns (now exists) (now ready) (now partitions) (now priorities) (now masks)) (now queue)) (now history) (bytesOf event) ≡ 0) × (event .stamp ≡ stampOf (bytesOf event)) ⌝ }
+    requires { ⌜ Whole settings (now used) c (columns (now exists) (now ready) (now partitions) (now priorities) (now masks) (now policies) (now slices)) (now queue) (now history) (now budgets) (now tops) (now firsts) sets × (refused (stateOf settings (now used) c (columns (now exists) (now ready) (now partitions) (now priorities) (now masks) (now policies) (now slices)) (now queue)) (now history) (bytesOf event) ≡ 0) × (event .stamp ≡ stampOf (bytesOf event)) ⌝ }
     ensures { λ r. ⌜
         StepAnswered settings
-        (saved (stateOf settings (now (used .entry)) c (columns (now (exists .entry)) (now (ready .entry)) (now (partitions .entry)) (now (priorities .entry)) (now (masks .entry))) (now (queue .entry))) (now (history .entry)))
+        (saved (stateOf settings (now (used .entry)) c (columns (now (exists .entry)) (now (ready .entry)) (now (partitions .entry)) (now (priorities .entry)) (now (masks .entry)) (now (policies .entry)) (now (slices .entry))) (now (queue .entry))) (now (history .entry)))
         (bytesOf event)
         (r .verdict)
-        (now (used .exit)) (r .clock) (columns (now (exists .exit)) (now (ready .exit)) (now (partitions .exit)) (now (priorities .exit)) (now (masks .exit))) (now (queue .exit)) (now (history .exit)) (now (budgets .entry)) (now (tops .exit)) (now (firsts .exit)) (r .sets)
+        (now (used .exit)) (r .clock) (columns (now (exists .exit)) (now (ready .exit)) (now (partitions .exit)) (now (priorities .exit)) (now (masks .exit)) (now (policies .exit)) (now (slices .exit))) (now (queue .exit)) (now (history .exit)) (now (budgets .entry)) (now (tops .exit)) (now (firsts .exit)) (r .sets)
         ⌝ }
 {
     let d = apply::apply(
@@ -59,6 +61,8 @@ fn accept(
         partitions,
         priorities,
         masks,
+        policies,
+        slices,
         queue,
         budgets,
         tops,
@@ -107,6 +111,8 @@ pub fn step(
     partitions: &mut [u8; 64],
     priorities: &mut [u8; 64],
     masks: &mut [u8; 64],
+    policies: &mut [u8; 64],
+    slices: &mut [u8; 64],
     queue: &mut [u8; 64],
     budgets: &[u32; 16],
     tops: &mut [u16; 16],
@@ -116,14 +122,14 @@ pub fn step(
     sets: Sets,
     event: &[u8],
 ) -> Stepped
-    requires { ⌜ Whole settings (now used) c (columns (now exists) (now ready) (now partitions) (now priorities) (now masks)) (now queue) (now history) (now budgets) (now tops) (now firsts) sets ⌝ }
+    requires { ⌜ Whole settings (now used) c (columns (now exists) (now ready) (now partitions) (now priorities) (now masks) (now policies) (now slices)) (now queue) (now history) (now budgets) (now tops) (now firsts) sets ⌝ }
     ensures { λ r. ⌜
         StepAnswered settings
-        (saved (stateOf settings (now (used .entry)) c (columns (now (exists .entry)) (now (ready .entry)) (now (partitions .entry)) (now (priorities .entry)) (now (masks .entry))) (now (queue .entry))) (now (history .entry)))
+        (saved (stateOf settings (now (used .entry)) c (columns (now (exists .entry)) (now (ready .entry)) (now (partitions .entry)) (now (priorities .entry)) (now (masks .entry)) (now (policies .entry)) (now (slices .entry))) (now (queue .entry))) (now (history .entry)))
         (now (event .entry))
         (r .verdict)
-        (now (used .exit)) (r .clock) (columns (now (exists .exit)) (now (ready .exit)) (now (partitions .exit)) (now (priorities .exit)) (now (masks .exit))) (now (queue .exit)) (now (history .exit)) (now (budgets .entry)) (now (tops .exit)) (now (firsts .exit)) (r .sets)
-        × Still (saved (stateOf settings (now (used .entry)) c (columns (now (exists .entry)) (now (ready .entry)) (now (partitions .entry)) (now (priorities .entry)) (now (masks .entry))) (now (queue .entry))) (now (history .entry))) (now (event .entry)) (now (used .entry)) c (columns (now (exists .entry)) (now (ready .entry)) (now (partitions .entry)) (now (priorities .entry)) (now (masks .entry))) (now (queue .entry)) (now (history .entry)) (now (used .exit)) (r .clock) (columns (now (exists .exit)) (now (ready .exit)) (now (partitions .exit)) (now (priorities .exit)) (now (masks .exit))) (now (queue .exit)) (now (history .exit))
+        (now (used .exit)) (r .clock) (columns (now (exists .exit)) (now (ready .exit)) (now (partitions .exit)) (now (priorities .exit)) (now (masks .exit)) (now (policies .exit)) (now (slices .exit))) (now (queue .exit)) (now (history .exit)) (now (budgets .entry)) (now (tops .exit)) (now (firsts .exit)) (r .sets)
+        × Still (saved (stateOf settings (now (used .entry)) c (columns (now (exists .entry)) (now (ready .entry)) (now (partitions .entry)) (now (priorities .entry)) (now (masks .entry)) (now (policies .entry)) (now (slices .entry))) (now (queue .entry))) (now (history .entry))) (now (event .entry)) (now (used .entry)) c (columns (now (exists .entry)) (now (ready .entry)) (now (partitions .entry)) (now (priorities .entry)) (now (masks .entry)) (now (policies .entry)) (now (slices .entry))) (now (queue .entry)) (now (history .entry)) (now (used .exit)) (r .clock) (columns (now (exists .exit)) (now (ready .exit)) (now (partitions .exit)) (now (priorities .exit)) (now (masks .exit)) (now (policies .exit)) (now (slices .exit))) (now (queue .exit)) (now (history .exit))
         ⌝ }
 {
     let decoded = event::decode(event);
@@ -139,6 +145,8 @@ pub fn step(
             partitions,
             priorities,
             masks,
+            policies,
+            slices,
             queue,
             budgets,
             tops,

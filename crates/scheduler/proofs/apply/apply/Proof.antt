@@ -20,7 +20,7 @@ enum-told c = search needs
 tick-requires : tie.Need-tick-requires
 tick-requires c κs =
     let a = c .before .before .before .before .before .before .args in
-    ticking (a .settings) (now (a .used)) (a .c) (columns (now (a .exists)) (now (a .ready)) (now (a .partitions)) (now (a .priorities)) (now (a .masks))) (now (a .queue)) (now (a .history)) (now (a .budgets)) (now (a .tops)) (now (a .firsts)) (a .sets) (a .event) (c .before .before .before .before .before .before .pre) (not-resume (a .event) (ap kindNumber (c .before .before .before .enum-told .given .1)))
+    ticking (a .settings) (now (a .used)) (a .c) (columns (now (a .exists)) (now (a .ready)) (now (a .partitions)) (now (a .priorities)) (now (a .masks)) (now (a .policies)) (now (a .slices))) (now (a .queue)) (now (a .history)) (now (a .budgets)) (now (a .tops)) (now (a .firsts)) (a .sets) (a .event) (c .before .before .before .before .before .before .pre) (not-resume (a .event) (ap kindNumber (c .before .before .before .enum-told .given .1)))
 
 finish-requires : tie.Need-finish-requires
 finish-requires c κs = search needs
@@ -31,7 +31,7 @@ enum-told-2 c = search needs
 restart-requires : tie.Need-restart-requires
 restart-requires c κs =
     let a = c .before .before .before .before .before .args in
-    can-restart (a .settings) (now (a .used)) (a .c) (columns (now (a .exists)) (now (a .ready)) (now (a .partitions)) (now (a .priorities)) (now (a .masks))) (now (a .queue)) (now (a .history)) (now (a .budgets)) (now (a .tops)) (now (a .firsts)) (a .sets) (a .event) (c .before .before .before .before .before .pre)
+    can-restart (a .settings) (now (a .used)) (a .c) (columns (now (a .exists)) (now (a .ready)) (now (a .partitions)) (now (a .priorities)) (now (a .masks)) (now (a .policies)) (now (a .slices))) (now (a .queue)) (now (a .history)) (now (a .budgets)) (now (a .tops)) (now (a .firsts)) (a .sets) (a .event) (c .before .before .before .before .before .pre)
 
 finish-requires-2 : tie.Need-finish-requires-2
 finish-requires-2 c κs = search needs
@@ -51,9 +51,9 @@ returns : tie.Need-returns
 returns c =
     let a = c .before .before .before .before .before .before .before .before .before .before .args in
     let d = c .before .before .before .tick in
-    let v = saved (stateOf (a .settings) (now (a .used)) (a .c) (columns (now (a .exists)) (now (a .ready)) (now (a .partitions)) (now (a .priorities)) (now (a .masks))) (now (a .queue))) (now (a .history)) in
-    subst (λ (z : Done). Applied (a .settings) v (d .last .1 .0) (z .clock) (columns (now (a .exists)) (now (a .ready)) (now (a .partitions)) (now (a .priorities)) (now (a .masks))) (now (a .queue)) (d .last .1 .1 .1 .1 .0) (now (a .budgets)) (now (a .tops)) (now (a .firsts)) (z .sets) (bytesOf (a .event))) (sym (c .finish .ensures))
-    (ticked (a .settings) (now (a .used)) (a .c) (columns (now (a .exists)) (now (a .ready)) (now (a .partitions)) (now (a .priorities)) (now (a .masks))) (now (a .queue)) (now (a .history)) (now (a .budgets)) (now (a .tops)) (now (a .firsts)) (a .sets) (a .event) (c .before .before .before .before .before .before .before .before .before .before .pre) (ap kindNumber (c .before .before .before .before .before .before .before .enum-told .given .1)) (d .last .1 .0) (d .result .clock) _ (d .result .solvent) (d .ensures .0) (d .ensures .1))
+    let v = saved (stateOf (a .settings) (now (a .used)) (a .c) (columns (now (a .exists)) (now (a .ready)) (now (a .partitions)) (now (a .priorities)) (now (a .masks)) (now (a .policies)) (now (a .slices))) (now (a .queue))) (now (a .history)) in
+    subst (λ (z : Done). Applied (a .settings) v (d .last .1 .0) (z .clock) (columns (now (a .exists)) (now (a .ready)) (now (a .partitions)) (now (a .priorities)) (now (a .masks)) (now (a .policies)) (now (a .slices))) (now (a .queue)) (d .last .1 .1 .1 .1 .0) (now (a .budgets)) (now (a .tops)) (now (a .firsts)) (z .sets) (bytesOf (a .event))) (sym (c .finish .ensures))
+    (ticked (a .settings) (now (a .used)) (a .c) (columns (now (a .exists)) (now (a .ready)) (now (a .partitions)) (now (a .priorities)) (now (a .masks)) (now (a .policies)) (now (a .slices))) (now (a .queue)) (now (a .history)) (now (a .budgets)) (now (a .tops)) (now (a .firsts)) (a .sets) (a .event) (c .before .before .before .before .before .before .before .before .before .before .pre) (ap kindNumber (c .before .before .before .before .before .before .before .enum-told .given .1)) (d .last .1 .0) (d .result .clock) _ (d .result .solvent) (d .ensures .0) (d .ensures .1))
 
 same-length-2 : tie.Need-same-length-2
 same-length-2 c = search needs
@@ -62,9 +62,9 @@ returns-2 : tie.Need-returns-2
 returns-2 c =
     let a = c .before .before .before .before .before .before .before .before .before .args in
     let d = c .before .before .before .restart in
-    let v = saved (stateOf (a .settings) (now (a .used)) (a .c) (columns (now (a .exists)) (now (a .ready)) (now (a .partitions)) (now (a .priorities)) (now (a .masks))) (now (a .queue))) (now (a .history)) in
-    subst (λ (z : Done). Applied (a .settings) v (d .last .1 .0) (z .clock) (columns (now (a .exists)) (now (a .ready)) (now (a .partitions)) (now (a .priorities)) (now (a .masks))) (now (a .queue)) (d .last .1 .1 .1 .0) (now (a .budgets)) (now (a .tops)) (now (a .firsts)) (z .sets) (bytesOf (a .event))) (sym (c .finish2 .ensures))
-    (resumed (a .settings) (now (a .used)) (a .c) (columns (now (a .exists)) (now (a .ready)) (now (a .partitions)) (now (a .priorities)) (now (a .masks))) (now (a .queue)) (now (a .history)) (now (a .budgets)) (now (a .tops)) (now (a .firsts)) (a .sets) (a .event) (c .before .before .before .before .before .before .before .before .before .pre) (ap kindNumber (c .before .before .before .before .before .before .enum-told2 .given .1)) (d .last .1 .0) (d .result .clock) _ (d .result .solvent) (d .ensures .0) (d .ensures .1))
+    let v = saved (stateOf (a .settings) (now (a .used)) (a .c) (columns (now (a .exists)) (now (a .ready)) (now (a .partitions)) (now (a .priorities)) (now (a .masks)) (now (a .policies)) (now (a .slices))) (now (a .queue))) (now (a .history)) in
+    subst (λ (z : Done). Applied (a .settings) v (d .last .1 .0) (z .clock) (columns (now (a .exists)) (now (a .ready)) (now (a .partitions)) (now (a .priorities)) (now (a .masks)) (now (a .policies)) (now (a .slices))) (now (a .queue)) (d .last .1 .1 .1 .0) (now (a .budgets)) (now (a .tops)) (now (a .firsts)) (z .sets) (bytesOf (a .event))) (sym (c .finish2 .ensures))
+    (resumed (a .settings) (now (a .used)) (a .c) (columns (now (a .exists)) (now (a .ready)) (now (a .partitions)) (now (a .priorities)) (now (a .masks)) (now (a .policies)) (now (a .slices))) (now (a .queue)) (now (a .history)) (now (a .budgets)) (now (a .tops)) (now (a .firsts)) (a .sets) (a .event) (c .before .before .before .before .before .before .before .before .before .pre) (ap kindNumber (c .before .before .before .before .before .before .enum-told2 .given .1)) (d .last .1 .0) (d .result .clock) _ (d .result .solvent) (d .ensures .0) (d .ensures .1))
 
 same-length-3 : tie.Need-same-length-3
 same-length-3 c = search needs
