@@ -13,7 +13,7 @@ use Rattle.units.specs.declared.Ticks.{Ticks}
 use Rattle.sheet.specs.Settings.{W}
 use Rattle.sheet.specs.declared.Settings.{Settings}
 use Rattle.model.specs.State.{cycles, thread, used, State, Thread}
-use Rattle.model.specs.Arrays.{columns, stateOf}
+use Rattle.model.specs.Arrays.{Columns, columns, stateOf}
 use Rattle.model.specs.Step.{Saved, saved, billed, addUsed, charge, moveSlot, clearHistory, lowerUsed, restart}
 use Rattle.model.specs.declared.Clock.{Clock}
 use Rattle.model.proofs.Table.{thread-at}
@@ -40,11 +40,15 @@ unfolding billed addUsed
 used-paid s e n = rw (ne-eqb (s .running) 255 n)
 
 module _ (c : Settings) (u : List ℕ) (k : Clock) (p h u′ : List ℕ) (k′ : Clock) (h′ : List ℕ) (stamp : ℕ) (d : Charged c u k p h u′ k′ h′ stamp) where
+  -- threads of which the partitions are told
+  abbrev alone : Columns
+  alone = columns [] [] p [] [] [] []
+
   abbrev s : State
-  s = stateOf c u k (columns [] [] p [] []) []
+  s = stateOf c u k alone []
 
   totals : map cycles u′ ≡ addUsed s (billed s) (elapsedOf stamp (k .stamp))
-  totals = ap (λ (v : Saved). v .state .used) (d (columns [] [] p [] []) []) ∙ charge-used s h stamp
+  totals = ap (λ (v : Saved). v .state .used) (d alone []) ∙ charge-used s h stamp
 
   total-as : (q : ℕ) (l : List Cycles) → map cycles u′ ≡ l → getD u′ q 0 ≡ getD l q (cycles 0) .0
   total-as q l e = sym (used-at u′ q) ∙ ap (λ (x : List Cycles). getD x q (cycles 0) .0) e
@@ -57,7 +61,7 @@ module _ (c : Settings) (u : List ℕ) (k : Clock) (p h u′ : List ℕ) (k′ :
 
   others : k .running ≢ 255 → k .running < 64 → (q : ℕ) → q ≢ payerOf k p → getD u′ q 0 ≡ getD u q 0
   others on low q n =
-      let who : thread s (k .running) .partition ≡ payerOf k p = ap (λ (t : Thread). t .partition) (thread-at (columns [] [] p [] []) (k .running) low) in
+      let who : thread s (k .running) .partition ≡ payerOf k p = ap (λ (t : Thread). t .partition) (thread-at alone (k .running) low) in
       let x : Cycles = cycles (used s (thread s (k .running) .partition) + elapsedOf stamp (k .stamp)) in
       total-as q _ (totals ∙ used-paid s (elapsedOf stamp (k .stamp)) on)
       ∙ ap (λ (y : Cycles). y .0) (getD-set-other (map cycles u) (thread s (k .running) .partition) q x (cycles 0) (λ e. n (e ∙ who))) ∙ used-at u q

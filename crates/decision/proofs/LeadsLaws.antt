@@ -370,9 +370,9 @@ module _ (core : ℕ) (ps ns ms line tops firsts : List ℕ) (set₀ t : ℕ) (q
   left-first : home < 16 → KeptIn core ps ns ms line tops firsts set₀ → Left core ps ns ms (leaves line t) tops firsts set₀ home t
   left-first low k = left-kept core ps ns ms ps ns ms t (λ u n. (refl, refl, refl)) line tops firsts set₀ low k
 
-  there : mine core ps ms home t ≡ true → member t (runnable core ps ms home line) ≡ true
+  queued-here : mine core ps ms home t ≡ true → member t (runnable core ps ms home line) ≡ true
   unfolding runnable
-  there e = member-keep (mine core ps ms home) line t ∙ rw (queued, e)
+  queued-here e = member-keep (mine core ps ms home) line t ∙ rw (queued, e)
 
   pub tail-kept : home < 16 → KeptIn core ps ns ms line tops firsts set₀ → Left core ps ns ms (toTail line t) tops firsts set₀ home t
   tail-kept low k = record {
@@ -395,13 +395,13 @@ module _ (core : ℕ) (ps ns ms line tops firsts : List ℕ) (set₀ t : ℕ) (q
       own : (z : Bool) → mine core ps ms home t ≡ z → getD firsts home 0 ≢ t → RightAt core ps ns ms (toTail line t) tops firsts set₀ home
       own false e n = unmoved core ps ns ms tops firsts set₀ t (leaves line t) home e (left-first low k .same n)
       own true e n =
-          let (x, y) = lead-tail (numbers ns) l t (there e) (λ w. n (k .right home low .thread ∙ w)) in
+          let (x, y) = lead-tail (numbers ns) l t (queued-here e) (λ w. n (k .right home low .thread ∙ w)) in
           right-as (numbers ns) (numbers ns) l (runnable core ps ms home (toTail line t)) tops firsts set₀ home
           (ap (leadIn (numbers ns)) (moved e) ∙ x) (ap anyOf (moved e) ∙ y) (k .right home low)
 
       high : (z : Bool) → mine core ps ms home t ≡ z → levelOf (numbers ns) (runnable core ps ms home (toTail line t)) ≤ getD tops home 0
       high false e = rw (runnable-out core ps ms home (leaves line t) t e) (left-first low k .below)
-      high true e = rw (moved e, k .right home low .top) (level-tail (numbers ns) l t (there e))
+      high true e = rw (moved e, k .right home low .top) (level-tail (numbers ns) l t (queued-here e))
 
 -- ---- a priority changed
 
