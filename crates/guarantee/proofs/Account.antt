@@ -25,14 +25,14 @@ use Rattle.model.specs.State.{cycles, absent, thread, queueOf, used, Thread, St
 use Rattle.model.specs.Policy.{Decided, decide}
 use Rattle.model.specs.Event
 use Rattle.model.specs.Event.{kindOf, stampOf, elapsedAt}
-use Rattle.model.specs.Step.{Saved, Answer, billed, charge, moveSlot, act, settle, restart, apply, answer}
+use Rattle.model.specs.Step.{Saved, Answer, billed, charge, moveSlot, sliced, act, settle, restart, apply, answer}
 use Rattle.model.specs.Run.{Entry, run, freshState, fresh, after}
 use Rattle.model.specs.Doors.{refusedStart}
 use Rattle.model.specs.Facts.{Settled}
 use Rattle.guarantee.specs.Demand3 as demand
 use Rattle.guarantee.specs.Demand3.{Last, chargeOf}
 use Rattle.guarantee.specs.Ledger.{addFirst, ledger, acceptedOf}
-use Rattle.guarantee.specs.Account.{recordFrom, queueBy, queueAfter, stampFrom, elapsedFrom, sinceFrom, ticksFrom, slotFrom, picture, decisionOf, chargeBy, periodsBy, periodsFrom, usedFrom, decisionFrom, decisionsFrom, ageOf, Accounted, Account, Answers}
+use Rattle.guarantee.specs.Account.{recordBy, recordFrom, queueBy, queueAfter, standingBy, standing, stampFrom, elapsedFrom, sinceFrom, ticksFrom, slotFrom, picture, decisionOf, chargeBy, periodsBy, periodsFrom, usedFrom, decisionFrom, decisionsFrom, ageOf, Accounted, Account, Answers}
 use Rattle.invariants.specs.Promises.{idleDecision}
 use Rattle.invariants.specs.Charges.{partOf}
 use Rattle.guarantee.specs.Scheduler.{HistoryMoved}
@@ -53,7 +53,7 @@ use Rattle.guarantee.proofs.Totals.{used-is, fresh-row}
 use Rattle.invariants.proofs.Zeros.{zeros-length}
 use Rattle.guarantee.proofs.Looks.{decide-same, decide-settle}
 use Rattle.guarantee.proofs.Ages.{window-at, period-at}
-use Rattle.guarantee.proofs.Told.{recordAfter, after-record, after-queue}
+use Rattle.guarantee.proofs.Told.{after-record, after-queue}
 
 -- what the account says of the last accepted event
 abbrev lastFrom : Settings → List (List ℕ) → Last
@@ -64,8 +64,8 @@ lastFrom c es = record { stamp = stampFrom es; mode = decisionFrom c es .mode; p
 -- the threads, the queue and the charges are those of the account
 record View (c : Settings) (es : List (List ℕ)) (v : Saved) : Type 0 where
   pub good : Good c v
-  pub threads : (t : ℕ) → thread (v .state) t ≡ recordFrom es t
-  pub queue : queueOf (v .state) ≡ queueAfter es
+  pub threads : (t : ℕ) → thread (v .state) t ≡ recordFrom c es t
+  pub queue : queueOf (v .state) ≡ queueAfter c es
   pub window : (p : ℕ) → p < c .count → newestFirst c p v ≡ filled (W c) (periodsFrom c es p)
   pub outside : (p : ℕ) → c .count ≤ p → sum (periodsFrom c es p) ≡ 0
 
@@ -88,10 +88,10 @@ module _ (c : Settings) (es : List (List ℕ)) (v : Saved) (m : View c es v) whe
           let none : used s p ≡ 0 = ap (λ (x : Cycles). x .0) (List·getD-eq-default (s .used) (cycles 0) {n = p} (rw (m .good .lengths .used) (omega arith))) in
           omega (arith, newest-le-sum (W c) (periodsFrom c es p), m .outside p (omega arith))
 
-  queued-is : s .queued ≡ length (queueAfter es)
+  queued-is : s .queued ≡ length (queueAfter c es)
   queued-is = sym (length-take-le (s .queued) (s .queue) (rw (m .good .lengths .queue) (k .stored .few))) ∙ ap length (m .queue)
 
-  stored-is : s .queue ≡ queueAfter es ++ replicate (64 - length (queueAfter es)) 0
+  stored-is : s .queue ≡ queueAfter c es ++ replicate (64 - length (queueAfter c es)) 0
   stored-is =
       zeros-after (s .queue) (s .queued) 64 (m .good .lengths .queue) (k .stored .few) (k .stored .zeros)
       ∙ ap (λ (q : List ℕ). q ++ replicate (64 - length q) 0) (m .queue)
@@ -101,11 +101,11 @@ module _ (c : Settings) (es : List (List ℕ)) (v : Saved) (m : View c es v) whe
 
   decided : decide s ≡ decisionFrom c es
   unfolding decisionOf
-  decided = decide-same s (picture c (recordFrom es) (queueAfter es) (usedFrom c es)) (m .good .settings)
+  decided = decide-same s (picture c (recordFrom c es) (queueAfter c es) (usedFrom c es)) (m .good .settings)
       (ext-getD (cycles 0) (s .used) (map totals (below 16)) (m .good .lengths .used ∙ sym (table-length totals 16))
       (λ p b. ap cycles (total-is p) ∙ sym (table-at totals 16 p (cycles 0) (rw (m .good .lengths .used) at b))))
-      (ext-getD absent (s .threads) (map (recordFrom es) (below 64)) (m .good .lengths .threads ∙ sym (table-length (recordFrom es) 64))
-      (λ t b. m .threads t ∙ sym (table-at (recordFrom es) 64 t absent (rw (m .good .lengths .threads) at b))))
+      (ext-getD absent (s .threads) (map (recordFrom c es) (below 64)) (m .good .lengths .threads ∙ sym (table-length (recordFrom c es) 64))
+      (λ t b. m .threads t ∙ sym (table-at (recordFrom c es) 64 t absent (rw (m .good .lengths .threads) at b))))
       stored-is queued-is
 
 -- ---- the charges of the account
@@ -138,7 +138,7 @@ module _ (e : List ℕ) (x : ℕ) where
       go false q false r = rw (periodsBy, q, r) (added-sum ys)
 
 periods-some : (c : Settings) (es : List (List ℕ)) (p : ℕ) → 0 < length (periodsFrom c es p)
-unfolding periodsFrom
+unfolding standing standingBy
 periods-some c [] p = omega arith
 periods-some c (e ∷ es) p = by-some e _ (periodsFrom c es p) (periods-some c es p)
 
@@ -202,7 +202,7 @@ module _ (c : Settings) (lent : List ℕ) (es : List (List ℕ)) (v : Saved) (m 
     charged-is p = charge-is p (lastFrom c es) v entry (m .last)
 
     window-after : (p : ℕ) → p < c .count → newestFirst c p v′ ≡ filled (W c) (periodsFrom c (b ∷ es) p)
-    unfolding ledger periodsBy periodsFrom chargeBy chargeOf
+    unfolding ledger periodsBy standing standingBy chargeBy chargeOf
     window-after p i =
         ap (newestFirst c p) (sym after-is)
         ∙ ledger-is c p i (entry ∷ []) v (lastFrom c es) ys (m .view .good) (refl, tt) (m .last) (periods-some c es p) (m .view .window p i)
@@ -218,7 +218,7 @@ module _ (c : Settings) (lent : List ℕ) (es : List (List ℕ)) (v : Saved) (m 
         next = cond (eqb (kindOf b) Event.resume) (0 ∷ []) (cond (eqb (kindOf b) Event.tick) (0 ∷ addFirst x ys) (addFirst x ys))
 
     outside-after : (p : ℕ) → c .count ≤ p → sum (periodsFrom c (b ∷ es) p) ≡ 0
-    unfolding periodsFrom
+    unfolding standing standingBy
     outside-after p out = omega (arith, by-sum b x (periodsFrom c es p), nothing, m .view .outside p out)
       where
         x : ℕ
@@ -231,12 +231,23 @@ module _ (c : Settings) (lent : List ℕ) (es : List (List ℕ)) (v : Saved) (m 
         nothing : x ≡ 0
         nothing = charged-is p ∙ share-outside (c .count) (billed (v .state)) p (elapsedAt (v .state) b) inside out
 
+    -- the thread that ran until now
+    abbrev ran : ℕ
+    ran = decisionFrom c es .thread
+
     view-after : View c (b ∷ es) v′
-    unfolding recordFrom queueAfter
+    unfolding standing standingBy
     view-after = record {
       good = good-settle c v b (m .view .good) ok;
-      threads = λ t. after-record c v (m .view .good) b (accepted v b ok) t ∙ ap (λ (r : Thread). recordAfter b t r) (m .view .threads t);
-      queue = after-queue c v (m .view .good) b (accepted v b ok) ∙ ap (queueBy b) (m .view .queue);
+      threads = λ t.
+          after-record c v (m .view .good) b (accepted v b ok) t
+          ∙ ap (λ (n : ℕ). recordBy b n t (thread (v .state) t)) (m .running)
+          ∙ ap (λ (r : Thread). recordBy b ran t r) (m .view .threads t);
+      queue =
+          after-queue c v (m .view .good) b (accepted v b ok)
+          ∙ ap (λ (n : ℕ). queueBy b n (thread (v .state) n) (queueOf (v .state))) (m .running)
+          ∙ ap (λ (r : Thread). queueBy b ran r (queueOf (v .state))) (m .view .threads ran)
+          ∙ ap (queueBy b ran (recordFrom c es ran)) (m .view .queue);
       window = window-after;
       outside = outside-after;
     }
@@ -254,7 +265,7 @@ module _ (c : Settings) (lent : List ℕ) (es : List (List ℕ)) (v : Saved) (m 
         (agrees c v (m .view .good) entry refl taken))
 
     since-after : v′ .state .since .0 ≡ sinceFrom (b ∷ es)
-    unfolding sinceFrom settle restart charge moveSlot
+    unfolding sinceFrom settle restart charge moveSlot sliced
     since-after = apply-cases v b (λ x. settle x .state .since .0 ≡ sinceFrom (b ∷ es)) (λ q. rw q) (λ q. rw q) (λ n t. longer n t)
       where
         untimed : (n : ℕ) → kindOf b ≢ Event.resume → kindOf b ≢ Event.tick → n ≡ cond (eqb (kindOf b) Event.tick || eqb (kindOf b) Event.resume) 0 n
@@ -313,7 +324,7 @@ module _ (sheet h : List ℕ) (e : refusedStart sheet h ≡ 0) where
   c₀ = settingsOf sheet
 
   view-fresh : View c₀ [] (fresh c₀ h)
-  unfolding recordFrom queueAfter periodsFrom
+  unfolding standing
   view-fresh = record {
     good = start-good sheet h e;
     threads = λ t. none-there t (decLt t 64);

@@ -20,7 +20,7 @@ use Rattle.model.specs.State.{thread, idle, used, State}
 use Rattle.model.specs.Event
 use Rattle.model.specs.Event.{kindOf, elapsedAt, stampOf}
 use Rattle.model.specs.Policy.{candidates, competing, remaining, hasBudget, winner, chosen, decide}
-use Rattle.model.specs.Step.{Saved, saved, billed, charge, next, moveSlot, act, settle, restart, apply}
+use Rattle.model.specs.Step.{Saved, saved, billed, charge, next, moveSlot, sliced, ticked, act, settle, restart, apply}
 use Rattle.model.specs.Facts.{Settled, Sound, Accepted}
 use Rattle.sheet.proofs.Within.{budgets}
 use Rattle.model.proofs.Bounds.{next-inside}
@@ -151,12 +151,12 @@ module _ (v : Saved) (b : List ℕ) (inside : v .state .slot .0 < W (v .state .s
   unfolding charge
   charge-row q = row-charge s (billed s) (elapsedAt s b) (v .history) q inside
 
-  tick-slot : moveSlot charged .state .slot .0 ≡ suc slot % w
-  unfolding charge moveSlot
+  tick-slot : ticked charged .state .slot .0 ≡ suc slot % w
+  unfolding charge moveSlot sliced
   tick-slot = next-is s inside
 
   tick-row : (q : ℕ) → q < s .settings .count
-      → row-of w (moveSlot charged .history) q ≡ set (row-of w (charged .history) q) (suc slot % w) 0
+      → row-of w (ticked charged .history) q ≡ set (row-of w (charged .history) q) (suc slot % w) 0
   unfolding charge moveSlot
   tick-row q i = rw (← next-is s inside) (row-clear w (next s) (s .settings .count) (charged .history) q (next-inside s inside) i)
 
@@ -176,7 +176,7 @@ module _ (v : Saved) (b : List ℕ) (inside : v .state .slot .0 < W (v .state .s
       resumes : kindFor (kindOf b) ≡ resume → MovedTo q (restart v (stampOf b))
       resumes k = record { by-other-slot = λ f. cc; by-other = λ f. cc; by-tick-slot = λ f. cc; by-tick = λ f. cc }
 
-      ticks : kindFor (kindOf b) ≡ tick → MovedTo q (moveSlot charged)
+      ticks : kindFor (kindOf b) ≡ tick → MovedTo q (ticked charged)
       ticks k =
           record {
             by-other-slot = λ f. cc;

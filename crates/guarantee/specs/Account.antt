@@ -1,8 +1,8 @@
--- DEMAND 2, the account: what the sheet's settings and the accepted events alone say of the threads, the ready queue, the charges and the
--- decision. The accepted events stand newest first; no state, history or answer goes into a definition, only into the statements at the end.
+-- DEMAND 2, the account: what the sheet's settings and the accepted events alone say of the threads, their slices, the ready queue, the
+-- charges and the decision. The accepted events stand newest first; no state, history or answer goes into a definition, only into the statements at the end.
 use Prim.Native.Nat.{ℕ, suc, _+_, _-_, _*_, _%_, _<_}
 use mathlib.Core.Path.{_≡_}
-use mathlib.Core.Bool.{true, false, not, cond, _&&_, _||_}
+use mathlib.Core.Bool.{false, not, cond, _&&_, _||_}
 use mathlib.Core.List.{List, [], _∷_, _++_, map, reverse}
 use lib.ListN.{length, getD, take, drop, replicate}
 use lib.Dec.{eqb}
@@ -12,10 +12,11 @@ use Rattle.sheet.specs.Settings.{W}
 use Rattle.sheet.specs.Sheet.{settingsOf}
 use Rattle.sheet.specs.declared.Settings.{Settings}
 use Rattle.model.specs.State.{cycles, absent, thread, queueOf, idle, used, Thread, State}
+use Rattle.model.specs.Slices.{counted}
 use Rattle.model.specs.Policy.{Decided, idleMode, decide}
 use Rattle.model.specs.Event
-use Rattle.model.specs.Event.{kindOf, threadOf, partitionOf, priorityOf, maskOf, stampOf}
-use Rattle.model.specs.Step.{Saved, leaves, withReady, withPriority, created}
+use Rattle.model.specs.Event.{kindOf, threadOf, partitionOf, priorityOf, maskOf, policyOf, stampOf}
+use Rattle.model.specs.Step.{Saved, leaves, turned, withReady, returned, withPriority, created}
 use Rattle.model.specs.Run.{run, fresh, after}
 use Rattle.model.specs.Doors.{refusedStart}
 use Rattle.guarantee.specs.Demand3.{accepted}
@@ -24,30 +25,30 @@ use Rattle.guarantee.specs.Ledger.{addFirst, acceptedOf}
 -- ---- the threads and the ready queue
 
 -- an accepted event on the record of the thread that it names
-unfoldable pub recordBy : List ℕ → Thread → Thread
-recordBy e r =
-    cond (eqb (kindOf e) Event.create) (created (partitionOf e) (priorityOf e) (maskOf e))
-    (cond (eqb (kindOf e) Event.ready) (withReady r true)
+unfoldable pub recordNamed : List ℕ → Thread → Thread
+recordNamed e r =
+    cond (eqb (kindOf e) Event.create) (created (partitionOf e) (priorityOf e) (maskOf e) (policyOf e))
+    (cond (eqb (kindOf e) Event.ready) (returned r)
     (cond (eqb (kindOf e) Event.block) (withReady r false)
     (cond (eqb (kindOf e) Event.setPriority) (withPriority r (priorityOf e))
     (cond (eqb (kindOf e) Event.end) absent
     r))))
 
--- the record of thread t
-unfoldable pub recordFrom : List (List ℕ) → ℕ → Thread
-recordFrom [] t = absent
-recordFrom (e ∷ es) t = cond (eqb (threadOf e) t) (recordBy e (recordFrom es t)) (recordFrom es t)
+-- an accepted event on the record r of thread t, where the thread `running` ran until then: "At each tick the running thread's task block
+-- is counted down"
+unfoldable pub recordBy : List ℕ → ℕ → ℕ → Thread → Thread
+recordBy e running t r =
+    cond (eqb (kindOf e) Event.tick) (cond (eqb running t) (counted r) r)
+    (cond (eqb (threadOf e) t) (recordNamed e r) r)
 
--- an accepted event on the ready queue: "ready: joins the line at its tail", "block: leaves the line", "end: leaves the line if in it"
-unfoldable pub queueBy : List ℕ → List ℕ → List ℕ
-queueBy e q =
-    cond (eqb (kindOf e) Event.ready) (q ++ (threadOf e ∷ []))
+-- an accepted event on the ready queue, where the thread `running`, of the record r, ran until then: at the end of its slice it "goes to the
+-- tail of the line"; "ready: joins the line at its tail", "block: leaves the line", "end: leaves the line if in it"
+unfoldable pub queueBy : List ℕ → ℕ → Thread → List ℕ → List ℕ
+queueBy e running r q =
+    cond (eqb (kindOf e) Event.tick) (turned r running q)
+    (cond (eqb (kindOf e) Event.ready) (q ++ (threadOf e ∷ []))
     (cond (eqb (kindOf e) Event.block || eqb (kindOf e) Event.end) (leaves q (threadOf e))
-    q)
-
-unfoldable pub queueAfter : List (List ℕ) → List ℕ
-queueAfter [] = []
-queueAfter (e ∷ es) = queueBy e (queueAfter es)
+    q))
 
 -- ---- the clock
 
@@ -94,10 +95,6 @@ picture c threads queue totals =
 abbrev pub inWindow : Settings → List ℕ → ℕ
 inWindow c periods = sum (take (W c) periods)
 
--- the decision after the events es, where `periods p` is what they charged to p in each tick period
-unfoldable pub decisionOf : Settings → List (List ℕ) → (ℕ → List ℕ) → Decided
-decisionOf c es periods = decide (picture c (recordFrom es) (queueAfter es) (λ p. inWindow c (periods p)))
-
 -- x, if the decision d chose a thread of p; "idle time goes to no account"
 unfoldable pub chargeBy : Decided → ℕ → ℕ → ℕ
 chargeBy d p x = cond (not (eqb (d .mode) idleMode) && eqb (d .partition) p) x 0
@@ -110,17 +107,47 @@ periodsBy e x ys =
     (cond (eqb (kindOf e) Event.tick) (0 ∷ addFirst x ys)
     (addFirst x ys))
 
--- what was charged to p in each tick period since the last resume, newest first: the elapsed of the events for which the decision before,
--- after the events es, chose a thread of p
-unfoldable pub periodsFrom : Settings → List (List ℕ) → ℕ → List ℕ
-periodsFrom c [] p = 0 ∷ []
-periodsFrom c (e ∷ es) p = periodsBy e (chargeBy (decisionOf c es (periodsFrom c es)) p (elapsedFrom es e)) (periodsFrom c es p)
+-- ---- the account, one recursion over the list: who ran until an event decides who is charged and, at a tick, whose slice is counted; the
+-- records, the queue and the charges after it give the next decision
+
+pub record Standing : Type 0 where
+  -- the threads' records, their slices in them
+  pub records : ℕ → Thread
+  pub queue : List ℕ
+  -- what each partition was charged in each tick period since the last resume, newest first
+  pub periods : ℕ → List ℕ
+
+unfoldable pub decisionOf : Settings → Standing → Decided
+decisionOf c a = decide (picture c (a .records) (a .queue) (λ p. inWindow c (a .periods p)))
+
+-- the accepted event e, whose elapsed is x, after the decision d
+unfoldable pub standingBy : List ℕ → Decided → ℕ → Standing → Standing
+standingBy e d x a =
+    record {
+      records = λ t. recordBy e (d .thread) t (a .records t);
+      queue = queueBy e (d .thread) (a .records (d .thread)) (a .queue);
+      periods = λ p. periodsBy e (chargeBy d p x) (a .periods p);
+    }
+
+unfoldable pub standing : Settings → List (List ℕ) → Standing
+standing c [] = record { records = λ t. absent; queue = []; periods = λ p. 0 ∷ [] }
+standing c (e ∷ es) = standingBy e (decisionOf c (standing c es)) (elapsedFrom es e) (standing c es)
+
+-- what it says of each thread, the queue, each partition and the decision
+abbrev pub recordFrom : Settings → List (List ℕ) → ℕ → Thread
+recordFrom c es = standing c es .records
+
+abbrev pub queueAfter : Settings → List (List ℕ) → List ℕ
+queueAfter c es = standing c es .queue
+
+abbrev pub periodsFrom : Settings → List (List ℕ) → ℕ → List ℕ
+periodsFrom c es = standing c es .periods
 
 abbrev pub usedFrom : Settings → List (List ℕ) → ℕ → ℕ
 usedFrom c es p = inWindow c (periodsFrom c es p)
 
 abbrev pub decisionFrom : Settings → List (List ℕ) → Decided
-decisionFrom c es = decisionOf c es (periodsFrom c es)
+decisionFrom c es = decisionOf c (standing c es)
 
 -- the decisions after each of the accepted events bs, oldest first, which follow es
 unfoldable pub decisionsFrom : Settings → List (List ℕ) → List (List ℕ) → List Decided
@@ -136,8 +163,8 @@ ageOf c es k = (slotFrom c es + W c - k) % W c
 -- a state and a history are those of the account of the events es; `lent` is the history as it was lent
 pub record Accounted (c : Settings) (lent : List ℕ) (es : List (List ℕ)) (v : Saved) : Type 0 where
   pub settings : v .state .settings ≡ c
-  pub threads : (t : ℕ) → thread (v .state) t ≡ recordFrom es t
-  pub queue : queueOf (v .state) ≡ queueAfter es
+  pub threads : (t : ℕ) → thread (v .state) t ≡ recordFrom c es t
+  pub queue : queueOf (v .state) ≡ queueAfter c es
   pub stamp : v .state .stamp ≡ stampFrom es
   pub since : v .state .since .0 ≡ sinceFrom es
   pub slot : v .state .slot .0 ≡ slotFrom c es

@@ -10,10 +10,12 @@ use borrow.Author.Tests.{eqb-true, eqb-false}
 use native.Mathlib.Omega.{arith}
 use Rattle.lists.proofs.Tests.{clash}
 use Rattle.model.specs.State.{absent, thread, queueOf, Thread, State}
+use Rattle.model.specs.Slices.{sliceFor}
 use Rattle.model.specs.Event
-use Rattle.model.specs.Event.{kindOf, threadOf, partitionOf, priorityOf, maskOf}
-use Rattle.model.specs.Step.{withQueue, withThread, withReady, withPriority, created, joins, goes, act, leaves}
-use Rattle.model.specs.Facts.{Settled, Proper, ReadyQueue, Named}
+use Rattle.model.specs.Event.{kindOf, threadOf, partitionOf, priorityOf, maskOf, policyOf}
+use Rattle.model.specs.Step.{withQueue, withThread, withReady, returned, withPriority, created, joins, goes, act, leaves}
+use Rattle.model.specs.Facts.{Settled, SliceFits, Proper, ReadyQueue, Named}
+use Rattle.model.proofs.Slices.{full-slice, slice-absent}
 use Rattle.invariants.proofs.Queues.{queue-is, stored, proper-set, queue-same, queue-joins, queue-leaves}
 
 -- one thread's record changed, with the queue as it was or another one
@@ -53,12 +55,13 @@ module _ (s : State) (h : List ℕ) (k : Settled s h) (sixty-four : length (s .t
       → Settled (withQueue (withThread s t r) (leaves (queueOf s) t)) h
   goes-settled r p rdy = new-queue r (leaves (queueOf s) t) p (queue-leaves (s .threads) t r here (queueOf s) (k .queue) rdy)
 
-  -- an existing thread's record with another readiness or priority
+  -- an existing thread's record with another readiness or priority, and the slice that it had or a full one
   changed : (r : Thread) → thread s t .exists ≡ true → r .exists ≡ thread s t .exists → r .partition ≡ thread s t .partition
-      → r .mask ≡ thread s t .mask → Proper (s .settings .count) r
-  changed r e x p m = record {
+      → r .mask ≡ thread s t .mask → SliceFits (r .policy) (r .slice) → Proper (s .settings .count) r
+  changed r e x p m l = record {
     partition = λ z. rw p (k .proper t inside .partition e);
     mask = λ z. rw m (k .proper t inside .mask e);
+    slice = l;
     none = λ z. clash (x ∙ e) z;
   }
 
@@ -87,7 +90,7 @@ module _ (s : State) (b : List ℕ) where
   was = thread s t
 
   abbrev new : Thread
-  new = created (partitionOf b) (priorityOf b) (maskOf b)
+  new = created (partitionOf b) (priorityOf b) (maskOf b) (policyOf b)
 
   pub act-cases : (P : State → Type 0)
       → (kindOf b ≡ Event.create → P (withThread s t new))
@@ -111,18 +114,23 @@ module _ (s : State) (b : List ℕ) where
   pub act-settled : (h : List ℕ) → length (s .threads) ≡ 64 → Named s b → Settled s h → Settled (act s b) h
   act-settled h len n k = act-cases (λ s′. Settled s′ h)
       (λ q. let i : t < 64 = inside (omega arith) (omega arith) in
-      same-queue s h k len t i new (record { partition = λ z. n .partition-inside q; mask = λ z. n .some-core q; none = λ z. clash refl z })
+      same-queue s h k len t i new (record {
+        partition = λ z. n .partition-inside q;
+        mask = λ z. n .some-core q;
+        slice = full-slice (policyOf b) (n .known-policy q);
+        none = λ z. clash refl z;
+      })
       (sym (ap (λ (r : Thread). r .ready) (k .proper t i .none (n .absent q)))) (λ z. refl))
       (λ q. let (i, e) = there (omega arith) (omega arith) in
-      joins-settled s h k len t i (withReady was true) (changed s h k len t i (withReady was true) e refl refl refl)
-      (n .not-ready q) refl e)
+      let full : SliceFits (was .policy) (sliceFor (was .policy)) = full-slice (was .policy) (k .proper t i .slice .known) in
+      joins-settled s h k len t i (returned was) (changed s h k len t i (returned was) e refl refl refl full) (n .not-ready q) refl e)
       (λ q. let (i, e) = there (omega arith) (omega arith) in
-      goes-settled s h k len t i (withReady was false) (changed s h k len t i (withReady was false) e refl refl refl) refl)
+      goes-settled s h k len t i (withReady was false) (changed s h k len t i (withReady was false) e refl refl refl (k .proper t i .slice)) refl)
       (λ q. let (i, e) = there (omega arith) (omega arith) in
       let r : Thread = withPriority was (priorityOf b) in
-      same-queue s h k len t i r (changed s h k len t i r e refl refl refl) refl (λ z. e))
+      same-queue s h k len t i r (changed s h k len t i r e refl refl refl (k .proper t i .slice)) refl (λ z. e))
       (λ q. let i : t < 64 = inside (omega arith) (omega arith) in
-      goes-settled s h k len t i absent (record { partition = λ z. clash z refl; mask = λ z. clash z refl; none = λ z. refl }) refl)
+      goes-settled s h k len t i absent (record { partition = λ z. clash z refl; mask = λ z. clash z refl; slice = slice-absent; none = λ z. refl }) refl)
       (λ n₁ n₂ n₃ n₄ n₅. k)
     where
       inside : Event.create ≤ kindOf b → kindOf b ≤ Event.end → t < 64

@@ -10,16 +10,20 @@ use lib.Dec.{eqb}
 use borrow.Author.Tests.{eqb-true, eqb-false}
 use native.Mathlib.Omega.{arith}
 use Rattle.sheet.specs.Settings.{W}
-use Rattle.model.specs.State.{absent, thread, queueOf, wanted, Thread, State}
+use Rattle.lists.specs.Lists.{member}
+use Rattle.model.specs.State.{absent, thread, queueOf, idle, wanted, Thread, State}
+use Rattle.model.specs.Slices.{counted}
 use Rattle.model.specs.Event
-use Rattle.model.specs.Event.{kindOf, threadOf, stampOf, elapsedAt}
-use Rattle.model.specs.Step.{Saved, withThread, withQueue, leaves, billed, charge, next, moveSlot, act, settle, restart, apply}
+use Rattle.model.specs.Event.{kindOf, threadOf, policyOf, stampOf, elapsedAt}
+use Rattle.model.specs.Step.{Saved, withThread, withQueue, leaves, billed, charge, next, moveSlot, turned, sliced, ticked, act, settle, restart, apply}
 use Rattle.model.specs.Typed.{Lengths, ThreadTyped, Bytes, Typed}
 use Rattle.model.specs.Facts.{Settled, Sound, Accepted, Named}
 use Rattle.model.proofs.Bounds.{next-inside}
+use Rattle.model.proofs.Slices.{slice-few, counted-typed}
 use Rattle.invariants.proofs.Charges.{used-length, lower-length, history-past, clear-past}
 use Rattle.invariants.proofs.Queues.{at-set}
 use Rattle.invariants.proofs.Acts.{act-cases, act-settings, act-stamp, act-settled}
+use Rattle.invariants.proofs.Turns.{sliced-thread, sliced-settled}
 use Rattle.invariants.proofs.Kept.{billed-inside, length-charge, length-move, charge-settled, move-settled, restart-settled}
 use Rattle.invariants.proofs.Words.{words}
 use Rattle.invariants.proofs.Typing.{typed-of}
@@ -27,31 +31,60 @@ use Rattle.invariants.proofs.Decision.{decide-runs}
 
 -- ---- the threads' action
 
+with-thread : (s : State) → Lengths s → (t : ℕ) (r : Thread) → Lengths (withThread s t r)
+with-thread s len t r = record { shares = len .shares; used = len .used; threads = length-set (s .threads) t r ∙ len .threads; queue = len .queue }
+
+with-queue : (s : State) (q : List ℕ) → Lengths s → length q ≤ 64 → Lengths (withQueue s q)
+with-queue s q l few =
+    record { shares = l .shares; used = l .used; threads = l .threads; queue = simp (length-append, length-replicate) (omega arith) }
+
 module _ (s : State) (b : List ℕ) (h : List ℕ) (len : Lengths s) (n : Named s b) where
-  with-thread : (r : Thread) → Lengths (withThread s (threadOf b) r)
-  with-thread r =
-      record { shares = len .shares; used = len .used; threads = length-set (s .threads) (threadOf b) r ∙ len .threads; queue = len .queue }
-
-  with-queue : (s′ : State) (q : List ℕ) → Lengths s′ → length q ≤ 64 → Lengths (withQueue s′ q)
-  with-queue s′ q l few =
-      record { shares = l .shares; used = l .used; threads = l .threads; queue = simp (length-append, length-replicate) (omega arith) }
-
   act-lengths : Settled (act s b) h → Lengths (act s b)
   act-lengths = act-cases s b (λ s′. Settled s′ h → Lengths s′)
-      (λ q k. with-thread _)
-      (λ q k. with-queue _ (queueOf s ++ (threadOf b ∷ [])) (with-thread _) (k .stored .few))
-      (λ q k. with-queue _ (leaves (queueOf s) (threadOf b)) (with-thread _) (k .stored .few))
-      (λ q k. with-thread _)
-      (λ q k. with-queue _ (leaves (queueOf s) (threadOf b)) (with-thread _) (k .stored .few))
+      (λ q k. with-thread s len _ _)
+      (λ q k. with-queue _ (queueOf s ++ (threadOf b ∷ [])) (with-thread s len _ _) (k .stored .few))
+      (λ q k. with-queue _ (leaves (queueOf s) (threadOf b)) (with-thread s len _ _) (k .stored .few))
+      (λ q k. with-thread s len _ _)
+      (λ q k. with-queue _ (leaves (queueOf s) (threadOf b)) (with-thread s len _ _) (k .stored .few))
       (λ n₁ n₂ n₃ n₄ n₅ k. len)
 
   act-threads : Bytes b → ((t : ℕ) → ThreadTyped (thread s t)) → (t : ℕ) → ThreadTyped (thread (act s b) t)
   act-threads y old = act-cases s b (λ s′. (t : ℕ) → ThreadTyped (thread s′ t))
-      (λ q. new (omega arith) (omega arith) (record { partition = y 2; priority = y 3; mask = y 8 }))
-      (λ q. new (omega arith) (omega arith) (record { partition = old i .partition; priority = old i .priority; mask = old i .mask }))
-      (λ q. new (omega arith) (omega arith) (record { partition = old i .partition; priority = old i .priority; mask = old i .mask }))
-      (λ q. new (omega arith) (omega arith) (record { partition = old i .partition; priority = y 3; mask = old i .mask }))
-      (λ q. new (omega arith) (omega arith) (record { partition = omega arith; priority = omega arith; mask = omega arith }))
+      (λ q. new (omega arith) (omega arith) (record {
+        partition = y 2;
+        priority = y 3;
+        mask = y 8;
+        policy = y 9;
+        slice = omega (arith, slice-few (policyOf b));
+      }))
+      (λ q. new (omega arith) (omega arith) (record {
+        partition = old i .partition;
+        priority = old i .priority;
+        mask = old i .mask;
+        policy = old i .policy;
+        slice = omega (arith, slice-few (thread s i .policy));
+      }))
+      (λ q. new (omega arith) (omega arith) (record {
+        partition = old i .partition;
+        priority = old i .priority;
+        mask = old i .mask;
+        policy = old i .policy;
+        slice = old i .slice;
+      }))
+      (λ q. new (omega arith) (omega arith) (record {
+        partition = old i .partition;
+        priority = y 3;
+        mask = old i .mask;
+        policy = old i .policy;
+        slice = old i .slice;
+      }))
+      (λ q. new (omega arith) (omega arith) (record {
+        partition = omega arith;
+        priority = omega arith;
+        mask = omega arith;
+        policy = omega arith;
+        slice = omega arith;
+      }))
       (λ n₁ n₂ n₃ n₄ n₅. old)
     where
       i : ℕ
@@ -72,7 +105,7 @@ module _ (v : Saved) (b : List ℕ) where
 
   pub apply-cases : (P : Saved → Type 0)
       → (kindOf b ≡ Event.resume → P (restart v (stampOf b)))
-      → (kindOf b ≡ Event.tick → P (moveSlot (charge v (stampOf b))))
+      → (kindOf b ≡ Event.tick → P (ticked (charge v (stampOf b))))
       → (kindOf b ≢ Event.resume → kindOf b ≢ Event.tick
       → P (record { state = act (charge v (stampOf b) .state) b; history = charge v (stampOf b) .history }))
       → P (apply v b)
@@ -80,7 +113,7 @@ module _ (v : Saved) (b : List ℕ) where
   apply-cases P f g k = go (eqb (kindOf b) Event.resume) refl (eqb (kindOf b) Event.tick) refl
     where
       go : (y : Bool) → eqb (kindOf b) Event.resume ≡ y → (z : Bool) → eqb (kindOf b) Event.tick ≡ z
-          → P (cond y (restart v (stampOf b)) (cond z (moveSlot (charge v (stampOf b))) (record { state = act (charge v (stampOf b) .state) b; history = charge v (stampOf b) .history })))
+          → P (cond y (restart v (stampOf b)) (cond z (ticked (charge v (stampOf b))) (record { state = act (charge v (stampOf b) .state) b; history = charge v (stampOf b) .history })))
       go true p z q = f (eqb-true _ _ p)
       go false p true q = g (eqb-true _ _ q)
       go false p false q = k (eqb-false _ _ p) (eqb-false _ _ q)
@@ -152,6 +185,30 @@ module _ (v : Saved) (b : List ℕ) where
           threads = l .threads;
         }
 
+    slice-left : (x : Saved) (t : ℕ) → (t ≢ idle → member t (queueOf (x .state)) ≡ true) → Left x
+        → Left (record { state = sliced (x .state) t; history = x .history })
+    unfolding sliced
+    slice-left x t runs l = record {
+      settled = k;
+      lengths = with-queue _ q (with-thread (x .state) (l .lengths) t _) (k .stored .few);
+      settings = l .settings;
+      stamp = l .stamp;
+      past = l .past;
+      size = l .size;
+      threads = λ y old u. rw (sliced-thread (x .state) t (l .lengths .threads) u) (go y old u (eqb t u));
+    }
+      where
+        q : List ℕ
+        q = turned (thread (x .state) t) t (queueOf (x .state))
+
+        k : Settled (sliced (x .state) t) (x .history)
+        k = sliced-settled (x .state) t (l .lengths .threads) (x .history) (l .settled) runs
+
+        go : Bytes b → ((t : ℕ) → ThreadTyped (thread s t)) → (u : ℕ) (z : Bool)
+            → ThreadTyped (cond z (counted (thread (x .state) u)) (thread (x .state) u))
+        go y old u true = counted-typed (thread (x .state) u) (l .threads y old u)
+        go y old u false = l .threads y old u
+
     act-left : (x : Saved) → Named (x .state) b → Left x → Left (record { state = act (x .state) b; history = x .history })
     act-left x n l = record {
       settled = k;
@@ -174,14 +231,20 @@ module _ (v : Saved) (b : List ℕ) where
       exists = a .named .exists;
       partition-inside = a .named .partition-inside;
       some-core = a .named .some-core;
+      known-policy = a .named .known-policy;
       not-ready = a .named .not-ready;
       was-ready = a .named .was-ready;
     }
 
+    -- the running thread is in the queue
+    ticked-left : Left (charge v (stampOf b)) → Left (ticked (charge v (stampOf b)))
+    unfolding charge moveSlot
+    ticked-left l = slice-left (moveSlot (charge v (stampOf b))) (s .running) (g .runs .queued) (move-left (charge v (stampOf b)) l)
+
     pub apply-left : Left (apply v b)
     apply-left = apply-cases Left
         (λ q. resume-left)
-        (λ q. move-left (charge v (stampOf b)) (charge-left (omega arith)))
+        (λ q. ticked-left (charge-left (omega arith)))
         (λ n m. act-left (charge v (stampOf b)) named (charge-left n))
 
     -- 3. the new decision

@@ -14,7 +14,7 @@ use Rattle.lists.specs.Lists.{any, all, member, distinct}
 use Rattle.lists.proofs.Tests.{clash, both}
 use Rattle.lists.proofs.All.{member-append, member-without, without, distinct-snoc, distinct-keep, pigeonhole}
 use Rattle.model.specs.State.{absent, queueOf, Thread, State}
-use Rattle.model.specs.Step.{withQueue, leaves}
+use Rattle.model.specs.Step.{withQueue, leaves, toTail}
 use Rattle.model.specs.Facts.{Proper, ReadyQueue, Stored, threadAt}
 
 -- ---- the queue as stored
@@ -94,3 +94,26 @@ module _ (ts : List Thread) (t : ℕ) (r : Thread) (inside : t < length ts) wher
 
       others : (u : ℕ) → u ≢ t → member u q ≡ member u (without t q)
       others u w = rw (member-without q t u, ne-eqb u t w) (sym (and-true (member u q)))
+
+  -- t, which is in it, goes to its tail
+  pub queue-turns : (q : List ℕ) → t < 64 → ReadyQueue ts q → r .ready ≡ true → r .exists ≡ true → ReadyQueue (set ts t r) (toTail q t)
+  unfolding leaves any
+  queue-turns q b l rdy ex =
+      queue-set q (toTail q t) l (distinct-snoc (without t q) t ∙ rw (distinct-keep (λ u. not (eqb u t)) q (l .once), gone)) few others
+      (rdy ∙ sym here) (λ x. ex)
+    where
+      gone : member t (without t q) ≡ false
+      gone = rw (member-without q t t, eq-eqb t t refl) (and-false (member t q))
+
+      here : member t (toTail q t) ≡ true
+      here = rw (member-append t (without t q) (t ∷ []), gone, eq-eqb t t refl)
+
+      others : (u : ℕ) → u ≢ t → member u q ≡ member u (toTail q t)
+      others u w = rw (member-append u (without t q) (t ∷ []), member-without q t u, ne-eqb u t w, and-true, or-false)
+
+      few : (u : ℕ) → member u (toTail q t) ≡ true → u < 64
+      few u m = go (ℕ-discrete u t)
+        where
+          go : Dec (u ≡ t) → u < 64
+          go (yes w) = omega arith
+          go (no w) = l .inside u (others u w ∙ m)
