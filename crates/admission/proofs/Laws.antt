@@ -15,6 +15,7 @@ use Rattle.units.specs.Units.{elapsedOf}
 use Rattle.sheet.specs.Settings.{C}
 use Rattle.sheet.specs.declared.Settings.{Settings}
 use Rattle.model.specs.State.{thread, State, Thread}
+use Rattle.model.specs.Slices.{roundRobin}
 use Rattle.model.specs.Event.{stampOf, known, namesThread, wellFormed, tooLong, wrongThread, wrongPlace, wrongReadiness, refusedEvent}
 use Rattle.model.specs.Arrays.{Columns, withFlagColumns, stateOf}
 use Rattle.model.specs.declared.Clock.{Clock}
@@ -102,9 +103,9 @@ module _ (c : Settings) (k : Clock) (e r : List ℕ) (x : Event) (form : wellFor
       go (no h) = let low : t < 64 = omega arith in ap (λ (y : Thread). cond (leb 64 t || g (eqb (getD e t 0) 1)) 11 (f (y .ready))) (thread-at ts t low)
 
   module _ (z : Bool) (d : z ≡ late (kindNumber (x .action)) (x .stamp) (k .stamp) (k .since .0) (C c)) (f : z ≡ false) where
-    pub at-create : kindNumber (x .action) ≡ 2 → createRefused e (c .count) t (x .partition) (x .mask) ≡ refusedEvent s b
+    pub at-create : kindNumber (x .action) ≡ 2 → createRefused e (c .count) t (x .partition) (x .mask) (x .policy) ≡ refusedEvent s b
     unfolding createRefused wrongThread wrongPlace wrongReadiness namesThread
-    at-create i = sym (rest z d f ∙ rw i (ap (λ (y : Bool). cond y 11 (cond (leb (c .count) (x .partition) || eqb (x .mask) 0) 12 0)) (exists-is (λ y. y))))
+    at-create i = sym (rest z d f ∙ rw i (ap (λ (y : Bool). cond y 11 (cond (leb (c .count) (x .partition) || eqb (x .mask) 0 || ltb roundRobin (x .policy)) 12 0)) (exists-is (λ y. y))))
 
     pub at-ready : kindNumber (x .action) ≡ 3 → readyRefused e r t ≡ refusedEvent s b
     unfolding readyRefused wrongThread wrongPlace wrongReadiness namesThread

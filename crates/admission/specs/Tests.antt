@@ -9,6 +9,7 @@ use Rattle.units.specs.Units.{elapsedOf}
 use Rattle.refusals.specs.Refusals.{outcomeOf}
 use Rattle.refusals.specs.declared.Outcome.{Outcome}
 use Rattle.sheet.specs.declared.Settings.{Settings}
+use Rattle.model.specs.Slices.{roundRobin}
 use Rattle.model.specs.Event.{wellFormed, stampOf, refusedEvent}
 use Rattle.model.specs.Arrays.{Columns, withFlagColumns, stateOf}
 use Rattle.model.specs.declared.Clock.{Clock}
@@ -23,8 +24,8 @@ late k new stamp since tick = not (eqb k 7) && ltb (2 * tick) (since + elapsedOf
 abbrev pub missingIn : List ℕ → ℕ → Bool
 missingIn e t = leb 64 t || not (eqb (getD e t 0) 1)
 
-unfoldable pub createRefused : List ℕ → ℕ → ℕ → ℕ → ℕ → ℕ
-createRefused e count t p m = cond (leb 64 t || eqb (getD e t 0) 1) 11 (cond (leb count p || eqb m 0) 12 0)
+unfoldable pub createRefused : List ℕ → ℕ → ℕ → ℕ → ℕ → ℕ → ℕ
+createRefused e count t p m o = cond (leb 64 t || eqb (getD e t 0) 1) 11 (cond (leb count p || eqb m 0 || ltb roundRobin o) 12 0)
 
 unfoldable pub readyRefused : List ℕ → List ℕ → ℕ → ℕ
 readyRefused e r t = cond (missingIn e t) 11 (cond (eqb (getD r t 0) 1) 13 0)

@@ -6,6 +6,7 @@ use model::Clock;
 use refusals::Outcome;
 use refusals::Refusal;
 use sheet::Settings;
+use threads::tasks::ROUND_ROBIN;
 use units::Cycles;
 ghost use mathlib.Core.Path.{_≡_};
 ghost use mathlib.Core.Bool.{true, not, _||_};
@@ -39,9 +40,16 @@ fn missing(exists: &[u8; 64], t: u8) -> bool
     exists[at] != 1
 }
 
-// A create: 11 for a thread that exists, 12 for a partition not below the count, or a run mask of 0.
-fn refused_create(exists: &[u8; 64], count: u32, t: u8, partition: u8, mask: u8) -> Outcome
-    ensures { λ r. ⌜ outcomeOf r ≡ createRefused (now (exists .entry)) count t partition mask ⌝ }
+// A create: 11 for a thread that exists, 12 for a partition not below the count, a run mask of 0, or a policy above 1.
+fn refused_create(
+    exists: &[u8; 64],
+    count: u32,
+    t: u8,
+    partition: u8,
+    mask: u8,
+    policy: u8,
+) -> Outcome
+    ensures { λ r. ⌜ outcomeOf r ≡ createRefused (now (exists .entry)) count t partition mask policy ⌝ }
 {
     if 64 <= t {
         return Outcome::Refused(Refusal::Thread);
@@ -50,7 +58,7 @@ fn refused_create(exists: &[u8; 64], count: u32, t: u8, partition: u8, mask: u8)
     if exists[at] == 1 {
         return Outcome::Refused(Refusal::Thread);
     }
-    if (count <= partition as u32) | (mask == 0) {
+    if (count <= partition as u32) | (mask == 0) | (ROUND_ROBIN < policy) {
         return Outcome::Refused(Refusal::Partition);
     }
     Outcome::Accepted
@@ -120,7 +128,14 @@ fn refused_action(
     }
     let action = event.action;
     match action {
-        Action::Create => refused_create(exists, settings.count, t, event.partition, event.mask),
+        Action::Create => refused_create(
+            exists,
+            settings.count,
+            t,
+            event.partition,
+            event.mask,
+            event.policy,
+        ),
         Action::Ready => refused_ready(exists, ready, t),
         Action::Block => refused_block(exists, ready, t),
         Action::SetPriority => refused_other(exists, t),

@@ -34,7 +34,7 @@ low x n h = omega arith
 
 -- what the form says
 module _ (b : List ℕ) (f : wellFormed b ≡ true) where
-  parts : (known (kindOf b) ≡ true) × (byte b 9 ≡ 0) × (byte b 10 ≡ 0) × (byte b 11 ≡ 0)
+  parts : (known (kindOf b) ≡ true) × (byte b 10 ≡ 0) × (byte b 11 ≡ 0)
   unfolding wellFormed
   parts =
       let k = kindOf b in
@@ -43,20 +43,21 @@ module _ (b : List ℕ) (f : wellFormed b ≡ true) where
       let a₃ = a₂ && (namesPlace k || blank b 2) in
       let a₄ = a₃ && (namesPriority k || blank b 3) in
       let a₅ = a₄ && (namesPlace k || blank b 8) in
-      let (x, z₁₁) = both (a₅ && blank b 9 && blank b 10) (blank b 11) f in
-      let (y, z₁₀) = both (a₅ && blank b 9) (blank b 10) x in
-      let (z, z₉) = both a₅ (blank b 9) y in
-      let (x₄, _) = both a₄ (namesPlace k || blank b 8) z in
+      let a₆ = a₅ && (namesPlace k || blank b 9) in
+      let (x, z₁₁) = both (a₆ && blank b 10) (blank b 11) f in
+      let (x₆, z₁₀) = both a₆ (blank b 10) x in
+      let (x₅, _) = both a₅ (namesPlace k || blank b 9) x₆ in
+      let (x₄, _) = both a₄ (namesPlace k || blank b 8) x₅ in
       let (x₃, _) = both a₃ (namesPriority k || blank b 3) x₄ in
       let (x₂, _) = both a₂ (namesPlace k || blank b 2) x₃ in
       let (x₁, _) = both a₁ (namesThread k || blank b 1) x₂ in
-      (x₁, eqb-true (byte b 9) 0 z₉, eqb-true (byte b 10) 0 z₁₀, eqb-true (byte b 11) 0 z₁₁)
+      (x₁, eqb-true (byte b 10) 0 z₁₀, eqb-true (byte b 11) 0 z₁₁)
 
   pub kind-read : (a : Action) → kindNumber a ≡ cond (known (kindOf b)) (kindOf b) 0 → kindOf b ≡ kindNumber a
   kind-read a e = sym (e ∙ rw (parts .0))
 
   pub read-back : (a : Action) (stamp : ℕ) → length b ≡ 12 → Bytes b → kindNumber a ≡ cond (known (kindOf b)) (kindOf b) 0 → stamp ≡ stampOf b
-      → b ≡ bytesOf (record { action = a; stamp = stamp; thread = byte b 1; partition = byte b 2; priority = byte b 3; mask = byte b 8 })
+      → b ≡ bytesOf (record { action = a; stamp = stamp; thread = byte b 1; partition = byte b 2; priority = byte b 3; mask = byte b 8; policy = byte b 9 })
   unfolding stampOf
   read-back a stamp h y k s =
       let k₀ = kind-read a k in
@@ -66,8 +67,8 @@ module _ (b : List ℕ) (f : wellFormed b ≡ true) where
       let e₅ : byte b 5 ≡ stamp / 256 % 256 = rw q₅ (low (byte b 5) (byte b 6 + 256 * byte b 7) (y 5)) in
       let e₆ : byte b 6 ≡ stamp / 65536 % 256 = rw q₆ (low (byte b 6) (byte b 7) (y 6)) in
       let e₇ : byte b 7 ≡ stamp / 16777216 = omega (arith, s, y 4, y 5, y 6, y 7) in
-      let (_, z₉, z₁₀, z₁₁) = parts in
-      twelve b h ∙ (λ i. k₀ i ∷ byte b 1 ∷ byte b 2 ∷ byte b 3 ∷ e₄ i ∷ e₅ i ∷ e₆ i ∷ e₇ i ∷ byte b 8 ∷ z₉ i ∷ z₁₀ i ∷ z₁₁ i ∷ [])
+      let (_, z₁₀, z₁₁) = parts in
+      twelve b h ∙ (λ i. k₀ i ∷ byte b 1 ∷ byte b 2 ∷ byte b 3 ∷ e₄ i ∷ e₅ i ∷ e₆ i ∷ e₇ i ∷ byte b 8 ∷ byte b 9 ∷ z₁₀ i ∷ z₁₁ i ∷ [])
 
 -- the kind of a well-formed record
 pub known-form : (b : List ℕ) → wellFormed b ≡ true → (1 ≤ kindOf b) × (kindOf b ≤ 7)
@@ -100,7 +101,8 @@ module _ (b : List ℕ) (h : length b ≡ 12) (u : Uses) (e : u ≡ usesOf (kind
   decoded-form d f g = refused-as b d Kind g (let w = sym (formed-is b u e) ∙ f in rw (eq-eqb (length b) 12 h, w))
 
   pub decoded-event : (a : Action) (stamp : ℕ) → formedBy u b ≡ true → Bytes b → kindNumber a ≡ cond (known (kindOf b)) (kindOf b) 0 → stamp ≡ stampOf b
-      → DecodedFrom b (record { outcome = outcome.Accepted; event = record { action = a; stamp = stamp; thread = byte b 1; partition = byte b 2; priority = byte b 3; mask = byte b 8 } })
+      → DecodedFrom b
+      (record { outcome = outcome.Accepted; event = record { action = a; stamp = stamp; thread = byte b 1; partition = byte b 2; priority = byte b 3; mask = byte b 8; policy = byte b 9 } })
   unfolding refusedForm
   decoded-event a stamp f y k s =
       let w = sym (formed-is b u e) ∙ f in

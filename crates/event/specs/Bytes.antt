@@ -17,7 +17,7 @@ abbrev pub bytesOf : Event → List ℕ
 bytesOf e =
     kindNumber (e .action) ∷ e .thread ∷ e .partition ∷ e .priority
     ∷ (e .stamp % 256) ∷ (e .stamp / 256 % 256) ∷ (e .stamp / 65536 % 256) ∷ (e .stamp / 16777216)
-    ∷ e .mask ∷ 0 ∷ 0 ∷ 0 ∷ []
+    ∷ e .mask ∷ e .policy ∷ 0 ∷ 0 ∷ []
 
 -- 9 by the column "uses" of the table of kinds: a known kind, and zero in every byte that it does not use
 unfoldable pub formedBy : Uses → List ℕ → Bool
@@ -27,7 +27,8 @@ formedBy u b =
     && (u .place || blank b 2)
     && (u .priority || blank b 3)
     && (u .place || blank b 8)
-    && blank b 9 && blank b 10 && blank b 11
+    && (u .place || blank b 9)
+    && blank b 10 && blank b 11
 
 -- the number by which bytes are refused before anything else is looked at: 14, then 9, or 0
 unfoldable pub refusedForm : List ℕ → ℕ

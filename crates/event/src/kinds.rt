@@ -22,7 +22,7 @@ pub struct Uses {
     pub known: bool,
     // Byte 1, the thread.
     pub thread: bool,
-    // Bytes 2 and 8, the partition and the run mask.
+    // Bytes 2, 8 and 9, the partition, the run mask and the policy.
     pub place: bool,
     // Byte 3, the priority.
     pub priority: bool,

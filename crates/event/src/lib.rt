@@ -17,6 +17,7 @@ pub struct Event {
     pub partition: u8,
     pub priority: u8,
     pub mask: u8,
+    pub policy: u8,
 }
 
 // What decoding answers: the event, of which nothing is lost; or 14 or 9 beside zeros.
@@ -35,7 +36,7 @@ fn formed(uses: Uses, bytes: &[u8]) -> bool
         & (uses.place | (bytes[2] == 0))
         & (uses.priority | (bytes[3] == 0))
         & (uses.place | (bytes[8] == 0))
-        & (bytes[9] == 0)
+        & (uses.place | (bytes[9] == 0))
         & (bytes[10] == 0)
         & (bytes[11] == 0)
 }
@@ -65,6 +66,7 @@ fn refuse(refusal: Refusal) -> Decoded
             partition: 0,
             priority: 0,
             mask: 0,
+            policy: 0,
         },
     }
 }
@@ -90,6 +92,7 @@ pub fn decode(bytes: &[u8]) -> Decoded
         partition: bytes[2],
         priority: bytes[3],
         mask: bytes[8],
+        policy: bytes[9],
     };
     Decoded {
         outcome: Outcome::Accepted,

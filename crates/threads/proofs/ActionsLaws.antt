@@ -4,16 +4,18 @@ use Prim.Native.Nat.{ℕ, _-_, _≤_, _<_}
 use mathlib.Core.Bool.{true, false, not, cond}
 use mathlib.Core.List.{List, [], _∷_, _++_}
 use lib.ListN.{length, getD, set, take, replicate, length-set}
+use native.Mathlib.Omega.{arith}
 use lib.Dec.{T, eqb}
 use denote.Enum.Declared.{tagOf}
 use mir.Val.{hasKey}
 use types.Run.{OneOf}
 use Rattle.model.specs.State.{absent, thread, State, Thread}
-use Rattle.model.specs.Event.{kindOf, threadOf, partitionOf, priorityOf, maskOf, known}
-use Rattle.model.specs.Step.{withThread, withReady, withPriority, created, joins, goes, leaves, act}
+use Rattle.model.specs.Event.{kindOf, threadOf, partitionOf, priorityOf, maskOf, policyOf, known}
+use Rattle.model.specs.Slices.{sliceFor}
+use Rattle.model.specs.Step.{withThread, withReady, returned, withPriority, created, joins, goes, leaves, act}
 use Rattle.lists.proofs.Tests.{both}
-use Rattle.model.specs.Arrays.{flag, plain, Columns, withReadyColumn, withPriorityColumn, Sized, Regular, Tables, withTables}
-use Rattle.model.proofs.Table.{plain-put, putRecord, flag-low}
+use Rattle.model.specs.Arrays.{flag, plain, Columns, withReadyColumn, withPriorityColumn, withSliceColumn, threadsIn, Sized, Regular, Tables, withTables}
+use Rattle.model.proofs.Table.{plain-put, putRecord, flag-low, returned-put}
 use Rattle.threads.specs.Entries.{queueIn, queueFrom}
 use Rattle.threads.specs.Able.{Acted}
 use Rattle.event.proofs.kinds.Action
@@ -23,7 +25,7 @@ use Rattle.event.specs.declared.kinds.Action.the-variants.{Unknown, Tick, Creat
 use Rattle.event.specs.Kinds.{kindNumber}
 
 module _ (s : State) (b : List ℕ) where
-  pub act-create : kindOf b ≡ 2 → act s b ≡ withThread s (threadOf b) (created (partitionOf b) (priorityOf b) (maskOf b))
+  pub act-create : kindOf b ≡ 2 → act s b ≡ withThread s (threadOf b) (created (partitionOf b) (priorityOf b) (maskOf b) (policyOf b))
   unfolding act
   act-create e = rw e
 
@@ -52,7 +54,7 @@ module _ (s : State) (b : List ℕ) where
 -- ---- the same of the threads and the queue alone
 
 -- a state with these threads and the queue of this list
-settled : (ts ts′ : List Thread) (q : List ℕ) (k : ℕ) (l : List ℕ) → ts ≡ ts′ → queueIn q k ≡ queueFrom l → (s : State)
+pub settled : (ts ts′ : List Thread) (q : List ℕ) (k : ℕ) (l : List ℕ) → ts ≡ ts′ → queueIn q k ≡ queueFrom l → (s : State)
     → withTables s (record { threads = ts; queue = q; queued = k }) ≡ withTables s (record { threads = ts′; queue = l ++ replicate (64 - length l) 0; queued = length l })
 unfolding queueFrom
 settled ts ts′ q k l e f s = λ i. withTables s (record { threads = e i; queue = f i .entries; queued = f i .length })
@@ -61,7 +63,7 @@ module _ (old : Tables) (b : List ℕ) (ts : List Thread) where
   abbrev record-of : Thread
   record-of = getD (old .threads) (threadOf b) absent
 
-  pub acted-create : kindOf b ≡ 2 → ts ≡ set (old .threads) (threadOf b) (created (partitionOf b) (priorityOf b) (maskOf b))
+  pub acted-create : kindOf b ≡ 2 → ts ≡ set (old .threads) (threadOf b) (created (partitionOf b) (priorityOf b) (maskOf b) (policyOf b))
       → Acted old (record { threads = ts; queue = old .queue; queued = old .queued }) b
   acted-create k e s = (λ i. withTables s (record { threads = e i; queue = old .queue; queued = old .queued })) ∙ sym (act-create (withTables s old) b k)
 
@@ -69,7 +71,7 @@ module _ (old : Tables) (b : List ℕ) (ts : List Thread) where
       → Acted old (record { threads = ts; queue = old .queue; queued = old .queued }) b
   acted-priority k e s = (λ i. withTables s (record { threads = e i; queue = old .queue; queued = old .queued })) ∙ sym (act-priority (withTables s old) b k)
 
-  pub acted-ready : (q : List ℕ) (n : ℕ) → kindOf b ≡ 3 → ts ≡ set (old .threads) (threadOf b) (withReady record-of true)
+  pub acted-ready : (q : List ℕ) (n : ℕ) → kindOf b ≡ 3 → ts ≡ set (old .threads) (threadOf b) (returned record-of)
       → queueIn q n ≡ queueFrom (take (old .queued) (old .queue) ++ (threadOf b ∷ [])) → Acted old (record { threads = ts; queue = q; queued = n }) b
   acted-ready q n k e f s = settled ts _ q n _ e f s ∙ sym (act-ready (withTables s old) b k)
 
@@ -97,6 +99,8 @@ module _ (ts : Columns) (s : Regular ts) (t : ℕ) (h : t < 64) where
           partitions = length-set (ts .partitions) t (x .partition) ∙ z .partitions;
           priorities = length-set (ts .priorities) t (x .priority) ∙ z .priorities;
           masks = length-set (ts .masks) t (x .mask) ∙ z .masks;
+          policies = length-set (ts .policies) t (x .policy) ∙ z .policies;
+          slices = length-set (ts .slices) t (x .slice) ∙ z .slices;
         };
         flags = rw (
           plain-put (ts .exists) t (flag (x .exists)) (z .exists) h (flag-low (x .exists)) (flags .0),
@@ -114,9 +118,33 @@ module _ (ts : Columns) (s : Regular ts) (t : ℕ) (h : t < 64) where
           partitions = z .partitions;
           priorities = z .priorities;
           masks = z .masks;
+          policies = z .policies;
+          slices = z .slices;
         };
         flags = rw (i, flags .0, plain-put (ts .ready) t v (z .ready) h x (flags .1));
       }
+
+  -- one that becomes ready, with a full slice
+  module _ (r′ l′ : List ℕ) (i : r′ ≡ set (ts .ready) t 1) (j : l′ ≡ set (ts .slices) t (sliceFor (getD (ts .policies) t 0))) where
+    pub joined : threadsIn (withSliceColumn (withReadyColumn ts r′) l′) ≡ set (threadsIn ts) t (returned (getD (threadsIn ts) t absent))
+    joined = (λ k. threadsIn (withSliceColumn (withReadyColumn ts (i k)) (j k))) ∙ returned-put ts s t h
+
+    pub regular-joined : Regular (withSliceColumn (withReadyColumn ts r′) l′)
+    regular-joined =
+        let g : Regular (withReadyColumn ts r′) = regular-ready r′ 1 (omega arith) i in
+        let z : Sized (withReadyColumn ts r′) = g .sized in
+        record {
+          sized = record {
+            exists = z .exists;
+            ready = z .ready;
+            partitions = z .partitions;
+            priorities = z .priorities;
+            masks = z .masks;
+            policies = z .policies;
+            slices = ap length j ∙ length-set (ts .slices) t (sliceFor (getD (ts .policies) t 0)) ∙ z .slices;
+          };
+          flags = g .flags;
+        }
 
   pub regular-priority : (n′ : List ℕ) (v : ℕ) → n′ ≡ set (ts .priorities) t v → Regular (withPriorityColumn ts n′)
   regular-priority n′ v i =
@@ -128,6 +156,8 @@ module _ (ts : Columns) (s : Regular ts) (t : ℕ) (h : t < 64) where
           partitions = z .partitions;
           priorities = ap length i ∙ length-set (ts .priorities) t v ∙ z .priorities;
           masks = z .masks;
+          policies = z .policies;
+          slices = z .slices;
         };
         flags = s .flags;
       }

@@ -5,15 +5,18 @@ use mathlib.Core.List.{List, [], _∷_, _++_, append-assoc}
 use Prim.Native.Nat.{ℕ, zero, suc, _+_, _-_, _<_, _≤_}
 use native.Mathlib.Numerals.{add-one}
 use native.Mathlib.Omega.{arith}
+use native.Mathlib.Decide.{decLe}
 use native.Mathlib.Nat.{not-suc-le-zero}
 use lib.Dec.{eqb}
 use borrow.Author.Tests.{eq-eqb, ne-eqb, eqb-false, not-true}
 use lib.ListN.{length, getD, take, drop, set, replicate, length-append, length-take, length-drop, length-replicate, take-append-drop}
-use lib.Seq.{length-take-le, take-suc, take-all, drop-cons, append-snoc, set-at, take-at, drop-at, getD-append-add, getD-drop, take-append-le, drop-append-le, take-take, getD-take}
+use lib.Seq.{length-take-le, take-suc, take-all, drop-cons, append-snoc, set-at, take-at, drop-at, take-append-seam, getD-append-add, getD-drop, take-append-le, drop-append-le, take-take, getD-take}
 use Rattle.lists.specs.Lists.{any, member, keep, distinct}
-use Rattle.lists.proofs.Tests.{both, neither}
+use Rattle.lists.proofs.Tests.{both, neither, clash}
 use Rattle.lists.proofs.All.{without-none}
-use Rattle.model.specs.Step.{leaves}
+use Rattle.lists.proofs.Tables.{zeros-after}
+use Rattle.model.specs.Step.{leaves, toTail}
+use Rattle.model.specs.Facts.{Stored}
 use Rattle.threads.specs.Entries.{Queue, queueIn, queueFrom, QueueStored, FirstAt, without, removed}
 
 abbrev zeros : ℕ → List ℕ
@@ -21,6 +24,21 @@ zeros n = replicate n 0
 
 pub queue-eq : {a b : List ℕ} {m n : ℕ} → a ≡ b → m ≡ n → queueIn a m ≡ queueIn b n
 queue-eq p q = λ i. queueIn (p i) (q i)
+
+-- a queue with zeros after its threads is stored
+pub queue-stored : (es : List ℕ) (n : ℕ) → length es ≡ 64 → Stored es n → QueueStored es n
+unfolding queueFrom
+queue-stored es n h s = queue-eq (zeros-after es n 64 h (s .few) (s .zeros)) (sym (length-take-le n es (omega (arith, h, s .few))))
+
+-- what is stored of a list
+first-of : (es : List ℕ) (n : ℕ) (l : List ℕ) → queueIn es n ≡ queueFrom l → take n es ≡ l
+unfolding queueFrom
+first-of es n l e =
+    ap (λ (k : ℕ). take k es) (ap (λ (x : Queue). x .length) e)
+    ∙ ap (take (length l)) (ap (λ (x : Queue). x .entries) e) ∙ take-append-seam l (zeros (64 - length l))
+
+stored-of : (es : List ℕ) (n : ℕ) (l : List ℕ) → queueIn es n ≡ queueFrom l → QueueStored es n
+stored-of es n l e = e ∙ sym (ap queueFrom (first-of es n l e))
 
 zeros-open : (n : ℕ) → n < 64 → zeros (64 - n) ≡ 0 ∷ zeros (64 - (n + 1))
 zeros-open n h =
@@ -117,12 +135,15 @@ leaves-at (x ∷ l) t (suc i) d m h e =
     rw (ne-eqb x t (λ q. eqb-false t x (n .0) (sym q))) (ap (λ (r : List ℕ). x ∷ r) ih)
 
 module _ (es : List ℕ) (n t i : ℕ) (s : QueueStored es n) (f : FirstAt (take n es) t i) where
+  out : n ≤ i → member t (take n es) ≡ false
+  out h =
+      let all : take i (take n es) ≡ take n es = take-all i (take n es) (omega (arith, counted es n s)) in
+      ap (member t) (sym all) ∙ f .none-before
+
   pub stays : n ≤ i → queueIn es n ≡ queueFrom (leaves (take n es) t)
   unfolding leaves
   stays h =
-      let all : take i (take n es) ≡ take n es = take-all i (take n es) (omega (arith, counted es n s)) in
-      let out : member t (take n es) ≡ false = ap (member t) (sym all) ∙ f .none-before in
-      s ∙ ap queueFrom (sym (without-none (take n es) t out))
+      s ∙ ap queueFrom (sym (without-none (take n es) t (out h)))
 
   pub gone : i < n → n ≤ 64 → distinct (take n es) ≡ true → queueIn (removed es n i) (n - 1) ≡ queueFrom (leaves (take n es) t)
   unfolding queueFrom removed
@@ -141,6 +162,23 @@ module _ (es : List ℕ) (n t i : ℕ) (s : QueueStored es n) (f : FirstAt (take
       let e : n - 1 + 1 ≡ n = omega arith in
       let more : 0 ∷ zs ≡ zeros (64 - (n - 1)) = sym (zeros-open (n - 1) (omega arith) ∙ rw e) in
       rw left (queue-eq (ap (λ x. x ++ (0 ∷ drop n es)) head ∙ ap (λ x. without l i ++ (0 ∷ x)) tail ∙ ap (λ x. without l i ++ x) more ∙ rw w) (sym w))
+
+  -- one of the entries is found
+  pub there : member t (take n es) ≡ true → i < n
+  there m = go (decLe n i)
+    where
+      go : Dec (n ≤ i) → i < n
+      go (no h) = omega arith
+      go (yes h) = clash m (out h)
+
+  -- taken out, and put at the tail
+  pub put-last : i < n → n ≤ 64 → distinct (take n es) ≡ true → queueIn (set (removed es n i) (n - 1) t) n ≡ queueFrom (toTail (take n es) t)
+  put-last h few once =
+      let left = gone h few once in
+      let e : n ≡ n - 1 + 1 = omega arith in
+      ap (queueIn (set (removed es n i) (n - 1) t)) e
+      ∙ appended (removed es n i) (n - 1) (stored-of (removed es n i) (n - 1) (leaves (take n es) t) left) t (omega arith)
+      ∙ ap (λ (l : List ℕ). queueFrom (l ++ (t ∷ []))) (first-of (removed es n i) (n - 1) (leaves (take n es) t) left)
 
 -- ---- finding
 

@@ -1,2 +1,4 @@
+pub mod TasksLaws
 pub mod EntriesLaws
 pub mod ActionsLaws
+pub mod TurnsLaws

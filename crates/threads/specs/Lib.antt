@@ -1,3 +1,4 @@
+pub mod Tasks
 pub mod Entries
 pub mod Able
 pub mod Turned

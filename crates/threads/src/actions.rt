@@ -1,59 +1,77 @@
 // What each kind of event does to the threads and the ready queue, in the arrays that the caller lends. Each function is lent the arrays that
 // it changes, and no other.
 use crate::queue;
+use crate::tasks;
 use event::Event;
 use event::kinds::Action;
 ghost use mathlib.Core.Path.{_≡_};
 ghost use mathlib.Core.Bool.{true};
 ghost use mathlib.Core.List.{_++_, _∷_, []};
 ghost use Prim.Native.Nat.{_<_, _≤_};
-ghost use lib.ListN.{take, set};
+ghost use lib.ListN.{take, set, getD};
 ghost use Rattle.lists.specs.Lists.{distinct};
 ghost use Rattle.model.specs.State.{absent};
+ghost use Rattle.model.specs.Slices.{sliceFor};
 ghost use Rattle.model.specs.Step.{created, leaves};
 ghost use Rattle.model.specs.Arrays.{columns, threadsIn, tablesIn, Regular};
 ghost use Rattle.threads.specs.Entries.{QueueStored, queueIn, queueFrom};
 ghost use Rattle.event.specs.Bytes.{bytesOf};
 ghost use Rattle.threads.specs.Able.{Able, Acted};
 
-// A new thread, not ready.
+// A new thread, not ready, with a full slice.
 fn create(
     exists: &mut [u8; 64],
     ready: &mut [u8; 64],
     partitions: &mut [u8; 64],
     priorities: &mut [u8; 64],
     masks: &mut [u8; 64],
+    policies: &mut [u8; 64],
+    slices: &mut [u8; 64],
     t: u8,
     partition: u8,
     priority: u8,
     mask: u8,
+    policy: u8,
 )
-    requires { ⌜ (t < 64) × Regular (columns (now exists) (now ready) (now partitions) (now priorities) (now masks)) ⌝ }
+    requires { ⌜ (t < 64) × Regular (columns (now exists) (now ready) (now partitions) (now priorities) (now masks) (now policies) (now slices)) ⌝ }
     ensures { λ _. ⌜
-        (threadsIn (columns (now (exists .exit)) (now (ready .exit)) (now (partitions .exit)) (now (priorities .exit)) (now (masks .exit)))
-        ≡ set (threadsIn (columns (now (exists .entry)) (now (ready .entry)) (now (partitions .entry)) (now (priorities .entry)) (now (masks .entry)))) t
-        (created partition priority mask))
-        × Regular (columns (now (exists .exit)) (now (ready .exit)) (now (partitions .exit)) (now (priorities .exit)) (now (masks .exit)))
+        (threadsIn (columns (now (exists .exit)) (now (ready .exit)) (now (partitions .exit)) (now (priorities .exit)) (now (masks .exit)) (now (policies .exit)) (now (slices .exit)))
+        ≡ set (threadsIn (columns (now (exists .entry)) (now (ready .entry)) (now (partitions .entry)) (now (priorities .entry)) (now (masks .entry)) (now (policies .entry)) (now (slices .entry)))) t
+        (created partition priority mask policy))
+        × Regular (columns (now (exists .exit)) (now (ready .exit)) (now (partitions .exit)) (now (priorities .exit)) (now (masks .exit)) (now (policies .exit)) (now (slices .exit)))
         ⌝ }
 {
     let at = t as usize;
+    let slice = tasks::slice_for(policy);
     exists[at] = 1;
     ready[at] = 0;
     partitions[at] = partition;
     priorities[at] = priority;
     masks[at] = mask;
+    policies[at] = policy;
+    slices[at] = slice;
 }
 
-// The thread joins the queue at its tail, and is ready.
-fn join(ready: &mut [u8; 64], queue: &mut [u8; 64], queued: u32, t: u8) -> u32
+// The thread joins the queue at its tail, and is ready, with a full slice.
+fn join(
+    ready: &mut [u8; 64],
+    policies: &[u8; 64],
+    slices: &mut [u8; 64],
+    queue: &mut [u8; 64],
+    queued: u32,
+    t: u8,
+) -> u32
     requires { ⌜ (t < 64) × QueueStored (now queue) queued × (queued < 64) ⌝ }
     ensures { λ r. ⌜
         (now (ready .exit) ≡ set (now (ready .entry)) t 1)
+        × (now (slices .exit) ≡ set (now (slices .entry)) t (sliceFor (getD (now (policies .entry)) t 0)))
         × (queueIn (now (queue .exit)) r ≡ queueFrom (take queued (now (queue .entry)) ++ (t ∷ [])))
         ⌝ }
 {
     let at = t as usize;
+    let slice = tasks::slice_for(policies[at]);
     ready[at] = 1;
+    slices[at] = slice;
     queue::append(queue, queued, t)
 }
 
@@ -86,14 +104,16 @@ fn forget(
     partitions: &mut [u8; 64],
     priorities: &mut [u8; 64],
     masks: &mut [u8; 64],
+    policies: &mut [u8; 64],
+    slices: &mut [u8; 64],
     t: u8,
 )
-    requires { ⌜ (t < 64) × Regular (columns (now exists) (now ready) (now partitions) (now priorities) (now masks)) ⌝ }
+    requires { ⌜ (t < 64) × Regular (columns (now exists) (now ready) (now partitions) (now priorities) (now masks) (now policies) (now slices)) ⌝ }
     ensures { λ _. ⌜
-        (threadsIn (columns (now (exists .exit)) (now (ready .exit)) (now (partitions .exit)) (now (priorities .exit)) (now (masks .exit)))
-        ≡ set (threadsIn (columns (now (exists .entry)) (now (ready .entry)) (now (partitions .entry)) (now (priorities .entry)) (now (masks .entry)))) t
+        (threadsIn (columns (now (exists .exit)) (now (ready .exit)) (now (partitions .exit)) (now (priorities .exit)) (now (masks .exit)) (now (policies .exit)) (now (slices .exit)))
+        ≡ set (threadsIn (columns (now (exists .entry)) (now (ready .entry)) (now (partitions .entry)) (now (priorities .entry)) (now (masks .entry)) (now (policies .entry)) (now (slices .entry)))) t
         absent)
-        × Regular (columns (now (exists .exit)) (now (ready .exit)) (now (partitions .exit)) (now (priorities .exit)) (now (masks .exit)))
+        × Regular (columns (now (exists .exit)) (now (ready .exit)) (now (partitions .exit)) (now (priorities .exit)) (now (masks .exit)) (now (policies .exit)) (now (slices .exit)))
         ⌝ }
 {
     let at = t as usize;
@@ -102,6 +122,8 @@ fn forget(
     partitions[at] = 0;
     priorities[at] = 0;
     masks[at] = 0;
+    policies[at] = 0;
+    slices[at] = 0;
 }
 
 // What the event's kind does; a tick and a resume do nothing here. The answer is how many threads are queued.
@@ -111,17 +133,19 @@ pub fn act(
     partitions: &mut [u8; 64],
     priorities: &mut [u8; 64],
     masks: &mut [u8; 64],
+    policies: &mut [u8; 64],
+    slices: &mut [u8; 64],
     queue: &mut [u8; 64],
     queued: u32,
     event: Event,
 ) -> u32
-    requires { ⌜ Able (columns (now exists) (now ready) (now partitions) (now priorities) (now masks)) (now queue) queued (bytesOf event) ⌝ }
+    requires { ⌜ Able (columns (now exists) (now ready) (now partitions) (now priorities) (now masks) (now policies) (now slices)) (now queue) queued (bytesOf event) ⌝ }
     ensures { λ r. ⌜
         Acted
-        (tablesIn (columns (now (exists .entry)) (now (ready .entry)) (now (partitions .entry)) (now (priorities .entry)) (now (masks .entry))) (now (queue .entry)) queued)
-        (tablesIn (columns (now (exists .exit)) (now (ready .exit)) (now (partitions .exit)) (now (priorities .exit)) (now (masks .exit))) (now (queue .exit)) r)
+        (tablesIn (columns (now (exists .entry)) (now (ready .entry)) (now (partitions .entry)) (now (priorities .entry)) (now (masks .entry)) (now (policies .entry)) (now (slices .entry))) (now (queue .entry)) queued)
+        (tablesIn (columns (now (exists .exit)) (now (ready .exit)) (now (partitions .exit)) (now (priorities .exit)) (now (masks .exit)) (now (policies .exit)) (now (slices .exit))) (now (queue .exit)) r)
         (bytesOf event)
-        × Regular (columns (now (exists .exit)) (now (ready .exit)) (now (partitions .exit)) (now (priorities .exit)) (now (masks .exit)))
+        × Regular (columns (now (exists .exit)) (now (ready .exit)) (now (partitions .exit)) (now (priorities .exit)) (now (masks .exit)) (now (policies .exit)) (now (slices .exit)))
         ⌝ }
 {
     let t = event.thread;
@@ -134,21 +158,33 @@ pub fn act(
                 partitions,
                 priorities,
                 masks,
+                policies,
+                slices,
                 t,
                 event.partition,
                 event.priority,
                 event.mask,
+                event.policy,
             );
             queued
         }
-        Action::Ready => join(ready, queue, queued, t),
+        Action::Ready => join(ready, policies, slices, queue, queued, t),
         Action::Block => block(ready, queue, queued, t),
         Action::SetPriority => {
             set_priority(priorities, t, event.priority);
             queued
         }
         Action::End => {
-            forget(exists, ready, partitions, priorities, masks, t);
+            forget(
+                exists,
+                ready,
+                partitions,
+                priorities,
+                masks,
+                policies,
+                slices,
+                t,
+            );
             queue::leave(queue, queued, t)
         }
         Action::Unknown | Action::Tick | Action::Resume => queued,

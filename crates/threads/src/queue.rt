@@ -1,12 +1,12 @@
-// The ready queue by itself, the paper's line, in a lent array: an entry is added at the tail and taken out from any place. The places after
-// the last stay zero.
+// The ready queue by itself, the paper's line, in a lent array: an entry is added at the tail, taken out from any place, or moved from there to
+// the tail. The places after the last stay zero.
 ghost use mathlib.Core.Path.{_≡_};
 ghost use mathlib.Core.Bool.{true};
 ghost use mathlib.Core.List.{_++_, _∷_, []};
 ghost use Prim.Native.Nat.{_<_, _≤_};
 ghost use lib.ListN.{length, take};
-ghost use Rattle.lists.specs.Lists.{distinct};
-ghost use Rattle.model.specs.Step.{leaves};
+ghost use Rattle.lists.specs.Lists.{member, distinct};
+ghost use Rattle.model.specs.Step.{leaves, toTail};
 ghost use Rattle.threads.specs.Entries.{QueueStored, queueIn, queueFrom, FirstAt, removed};
 
 // One thread more at the tail.
@@ -61,4 +61,17 @@ pub fn leave(entries: &mut [u8; 64], queued: u32, t: u8) -> u32
     }
     remove(entries, n, at);
     queued - 1
+}
+
+// Thread t, one of the entries, goes to the tail: those behind it move up, and as many are queued as before.
+pub fn to_tail(entries: &mut [u8; 64], queued: u32, t: u8)
+    requires { ⌜
+        QueueStored (now entries) queued × (queued ≤ 64) × (distinct (take queued (now entries)) ≡ true) × (member t (take queued (now entries)) ≡ true)
+        ⌝ }
+    ensures { λ _. ⌜ queueIn (now (entries .exit)) queued ≡ queueFrom (toTail (take queued (now (entries .entry))) t) ⌝ }
+{
+    let n = queued as usize;
+    let at = find(entries, n, t);
+    remove(entries, n, at);
+    entries[n - 1] = t;
 }

@@ -46,14 +46,17 @@ shared-slice-read-t18 c = search needs
 shared-slice-read-t20 : tie.Need-shared-slice-read-t20
 shared-slice-read-t20 c = search needs
 
+shared-slice-read-t22 : tie.Need-shared-slice-read-t22
+shared-slice-read-t22 c = search needs
+
 returns-3 : tie.Need-returns-3
 returns-3 c =
-    let b = now (c .before .before .before .before .before .before .before .before .before .before .before .before .args .bytes) in
-    let f = c .before .before .before .before .before .before .formed in
-    let u = c .before .before .before .before .before .before .before .before .form-of in
-    let s = c .before .before .before .before .stamp-of in
-    decoded-event b (c .before .before .before .before .before .before .before .before .before .before .if1 .left) (u .result .uses) (u .ensures .1) (u .result .action) (s .result) (sym (f .ensures) ∙ not-false (f .result) (c .before .before .before .before .before .if2 .left))
-    (λ i. c .shared-slice-known6 .given i .fits) (u .ensures .0) (s .ensures)
+    let b = now (c .before .before .before .before .before .before .before .before .before .before .before .before .before .args .bytes) in
+    let f = c .before .before .before .before .before .before .before .formed in
+    let u = c .before .before .before .before .before .before .before .before .before .form-of in
+    let s = c .before .before .before .before .before .stamp-of in
+    decoded-event b (c .before .before .before .before .before .before .before .before .before .before .before .if1 .left) (u .result .uses) (u .ensures .1) (u .result .action) (s .result) (sym (f .ensures) ∙ not-false (f .result) (c .before .before .before .before .before .before .if2 .left))
+    (λ i. c .shared-slice-known7 .given i .fits) (u .ensures .0) (s .ensures)
 
 pub decode-spec : {M : Type 1} → statement M
 decode-spec =
@@ -71,4 +74,5 @@ decode-spec =
     shared-slice-read-t16
     shared-slice-read-t18
     shared-slice-read-t20
+    shared-slice-read-t22
     returns-3)

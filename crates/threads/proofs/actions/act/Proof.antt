@@ -1,20 +1,18 @@
 use mathlib.Core.Path.{_≡_, sym, ap, _∙_}
-use mathlib.Core.Bool.{Bool, true, false}
+use mathlib.Core.Bool.{false}
 use mathlib.Core.List.{List}
 use Prim.Native.Nat.{ℕ, _<_, _≤_}
 use native.Mathlib.Omega.{arith}
-use lib.ListN.{getD, set}
 use denote.Ref.{now}
-use Rattle.model.specs.State.{absent, State}
+use Rattle.model.specs.State.{State}
 use Rattle.model.specs.Event.{kindOf, threadOf, priorityOf}
-use Rattle.model.specs.Step.{withReady}
-use Rattle.model.specs.Arrays.{flag, Columns, columns, withReadyColumn, withPriorityColumn, threadsIn, Tables, tablesIn, withTables}
+use Rattle.model.specs.Arrays.{Columns, columns, withReadyColumn, withPriorityColumn, threadsIn, Tables, tablesIn, withTables}
 use Rattle.model.proofs.Table.{ready-put, priority-put}
 use Rattle.event.specs.declared.kinds.Action.{Action}
 use Rattle.event.specs.declared.kinds.Action.the-variants.{Create, Ready, Block, SetPriority, End}
 use Rattle.event.specs.Kinds.{kindNumber}
 use Rattle.event.specs.Bytes.{bytesOf}
-use Rattle.threads.proofs.ActionsLaws.{act-none, acted-create, acted-ready, acted-block, acted-priority, acted-end, own-kind, regular-ready, regular-priority}
+use Rattle.threads.proofs.ActionsLaws.{act-none, acted-create, acted-ready, acted-block, acted-priority, acted-end, own-kind, regular-ready, regular-priority, joined, regular-joined}
 use borrow.Author.Needs.{needs}
 use Rattle.threads.proofs.actions.act.Statement.{statement}
 use Rattle.threads.proofs.actions.act.Tie as tie
@@ -23,7 +21,7 @@ abbrev bytes : tie.Start → List ℕ
 bytes c = bytesOf (c .args .event)
 
 abbrev threads : tie.Start → Columns
-threads c = let a = c .args in columns (now (a .exists)) (now (a .ready)) (now (a .partitions)) (now (a .priorities)) (now (a .masks))
+threads c = let a = c .args in columns (now (a .exists)) (now (a .ready)) (now (a .partitions)) (now (a .priorities)) (now (a .masks)) (now (a .policies)) (now (a .slices))
 
 abbrev old : tie.Start → Tables
 old c = tablesIn (threads c) (now (c .args .queue)) (c .args .queued)
@@ -37,16 +35,16 @@ enum-told c = search needs
 
 create-requires : tie.Need-create-requires
 create-requires c κs =
-    let at = c .before .before .before .before .before .before .before in
-    (inside at Create (c .before .before .before .before .before .enum-told .given .1) (omega arith) (omega arith), at .pre .sizes)
+    let at = c .before .before .before .before .before .before .before .before .before in
+    (inside at Create (c .before .before .before .before .before .before .before .enum-told .given .1) (omega arith) (omega arith), at .pre .sizes)
 
 enum-told-2 : tie.Need-enum-told-2
 enum-told-2 c = search needs
 
 join-requires : tie.Need-join-requires
 join-requires c κs =
-    let at = c .before .before .before .before in
-    let t = c .before .before .enum-told2 .given .1 in
+    let at = c .before .before .before .before .before .before in
+    let t = c .before .before .before .before .enum-told2 .given .1 in
     (inside at Ready t (omega arith) (omega arith), at .pre .stored, at .pre .free (ap kindNumber t))
 
 enum-told-3 : tie.Need-enum-told-3
@@ -68,37 +66,35 @@ enum-told-5 c = search needs
 
 forget-requires : tie.Need-forget-requires
 forget-requires c κs =
-    let at = c .before .before .before .before .before .before .before in
-    (inside at End (c .before .before .before .before .before .enum-told5 .given .1) (omega arith) (omega arith), at .pre .sizes)
+    let at = c .before .before .before .before .before .before .before .before .before in
+    (inside at End (c .before .before .before .before .before .before .before .enum-told5 .given .1) (omega arith) (omega arith), at .pre .sizes)
 
 leave-requires : tie.Need-leave-requires
 leave-requires c κs = search needs
 
 returns : tie.Need-returns
 returns c =
-    let at = c .before .before .before .before .before .before .before .before in
-    (acted-create (old at) (bytes at) _ (ap kindNumber (c .before .before .before .before .before .before .enum-told .given .1)) (c .create .ensures .0), c .create .ensures .1)
-
--- the thread's flag was stored
-flagged : (c : tie.Start) (r′ : List ℕ) (b : Bool) → r′ ≡ set (now (c .args .ready)) (threadOf (bytes c)) (flag b) → threadOf (bytes c) < 64
-    → threadsIn (withReadyColumn (threads c) r′) ≡ set (threadsIn (threads c)) (threadOf (bytes c)) (withReady (getD (threadsIn (threads c)) (threadOf (bytes c)) absent) b)
-flagged c r′ b e h = ap (λ (l : List ℕ). threadsIn (withReadyColumn (threads c) l)) e ∙ ready-put (threads c) (c .pre .sizes) (threadOf (bytes c)) h b
+    let at = c .before .before .before .before .before .before .before .before .before .before in
+    (acted-create (old at) (bytes at) _ (ap kindNumber (c .before .before .before .before .before .before .before .before .enum-told .given .1)) (c .create .ensures .0), c .create .ensures .1)
 
 returns-2 : tie.Need-returns-2
 returns-2 c =
-    let at = c .before .before .before .before .before in
-    let t = c .before .before .before .enum-told2 .given .1 in
-    let low = inside at Ready t (omega arith) (omega arith) in (
-      acted-ready (old at) (bytes at) _ _ (c .join .result) (ap kindNumber t) (flagged at _ true (c .join .ensures .0) low) (c .join .ensures .1),
-      regular-ready (threads at) (at .pre .sizes) (threadOf (bytes at)) low _ 1 (omega arith) (c .join .ensures .0),
+    let at = c .before .before .before .before .before .before .before in
+    let t = c .before .before .before .before .before .enum-told2 .given .1 in
+    let low = inside at Ready t (omega arith) (omega arith) in
+    let e = c .join .ensures in (
+      acted-ready (old at) (bytes at) _ _ (c .join .result) (ap kindNumber t) (joined (threads at) (at .pre .sizes) (threadOf (bytes at)) low _ _ (e .0) (e .1)) (e .2),
+      regular-joined (threads at) (at .pre .sizes) (threadOf (bytes at)) low _ _ (e .0) (e .1),
     )
 
 returns-3 : tie.Need-returns-3
 returns-3 c =
     let at = c .before .before .before .before .before in
     let t = c .before .before .before .enum-told3 .given .1 in
-    let low = inside at Block t (omega arith) (omega arith) in (
-      acted-block (old at) (bytes at) _ _ (c .block .result) (ap kindNumber t) (flagged at _ false (c .block .ensures .0) low) (c .block .ensures .1),
+    let low = inside at Block t (omega arith) (omega arith) in
+    let records = ap (λ (l : List ℕ). threadsIn (withReadyColumn (threads at) l)) (c .block .ensures .0)
+    ∙ ready-put (threads at) (at .pre .sizes) (threadOf (bytes at)) low false in (
+      acted-block (old at) (bytes at) _ _ (c .block .result) (ap kindNumber t) records (c .block .ensures .1),
       regular-ready (threads at) (at .pre .sizes) (threadOf (bytes at)) low _ 0 (omega arith) (c .block .ensures .0),
     )
 
@@ -115,8 +111,8 @@ returns-4 c =
 
 returns-5 : tie.Need-returns-5
 returns-5 c =
-    let at = c .before .before .before .before .before .before .before .before .before .before in
-    let t = c .before .before .before .before .before .before .before .before .enum-told5 .given .1 in
+    let at = c .before .before .before .before .before .before .before .before .before .before .before .before in
+    let t = c .before .before .before .before .before .before .before .before .before .before .enum-told5 .given .1 in
     (acted-end (old at) (bytes at) _ _ (c .leave .result) (ap kindNumber t) (c .before .before .forget .ensures .0) (c .leave .ensures), c .before .before .forget .ensures .1)
 
 returns-6 : tie.Need-returns-6

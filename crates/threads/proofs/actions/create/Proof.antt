@@ -1,11 +1,15 @@
 use denote.Ref.{now}
 use Rattle.model.specs.Arrays.{Columns, columns}
 use Rattle.model.proofs.Table.{thread-put}
+use Rattle.model.specs.State.{Thread}
 use Rattle.model.specs.Step.{created}
 use Rattle.threads.proofs.ActionsLaws.{regular-all}
 use borrow.Author.Needs.{needs}
 use Rattle.threads.proofs.actions.create.Statement.{statement}
 use Rattle.threads.proofs.actions.create.Tie as tie
+
+slice-for-requires : tie.Need-slice-for-requires
+slice-for-requires c κs = search needs
 
 element-write-exists : tie.Need-element-write-exists
 element-write-exists c = search needs
@@ -22,19 +26,30 @@ element-write-priorities c = search needs
 element-write-masks : tie.Need-element-write-masks
 element-write-masks c = search needs
 
+element-write-policies : tie.Need-element-write-policies
+element-write-policies c = search needs
+
+element-write-slices : tie.Need-element-write-slices
+element-write-slices c = search needs
+
 returns : tie.Need-returns
 returns c =
-    let a = c .args in
-    let ts : Columns = columns (now (a .exists)) (now (a .ready)) (now (a .partitions)) (now (a .priorities)) (now (a .masks)) in
-    (thread-put ts (c .pre .1) (a .t) (c .pre .0) (created (a .partition) (a .priority) (a .mask)), regular-all ts (c .pre .1) (a .t) (c .pre .0) (created (a .partition) (a .priority) (a .mask)))
+    let a = c .before .args in
+    let pre = c .before .pre in
+    let ts : Columns = columns (now (a .exists)) (now (a .ready)) (now (a .partitions)) (now (a .priorities)) (now (a .masks)) (now (a .policies)) (now (a .slices)) in
+    let new : Thread = created (a .partition) (a .priority) (a .mask) (a .policy) in
+    rw (c .slice-for .ensures) (thread-put ts (pre .1) (a .t) (pre .0) new, regular-all ts (pre .1) (a .t) (pre .0) new)
 
 pub create-spec : {M : Type 1} → statement M
 create-spec =
     tie.close
     (tie.spec
+    slice-for-requires
     element-write-exists
     element-write-ready
     element-write-partitions
     element-write-priorities
     element-write-masks
+    element-write-policies
+    element-write-slices
     returns)

@@ -22,10 +22,16 @@ element-write-priorities c = search needs
 element-write-masks : tie.Need-element-write-masks
 element-write-masks c = search needs
 
+element-write-policies : tie.Need-element-write-policies
+element-write-policies c = search needs
+
+element-write-slices : tie.Need-element-write-slices
+element-write-slices c = search needs
+
 returns : tie.Need-returns
 returns c =
     let a = c .args in
-    let ts : Columns = columns (now (a .exists)) (now (a .ready)) (now (a .partitions)) (now (a .priorities)) (now (a .masks)) in
+    let ts : Columns = columns (now (a .exists)) (now (a .ready)) (now (a .partitions)) (now (a .priorities)) (now (a .masks)) (now (a .policies)) (now (a .slices)) in
     (thread-put ts (c .pre .1) (a .t) (c .pre .0) absent, regular-all ts (c .pre .1) (a .t) (c .pre .0) absent)
 
 pub forget-spec : {M : Type 1} → statement M
@@ -37,4 +43,6 @@ forget-spec =
     element-write-partitions
     element-write-priorities
     element-write-masks
+    element-write-policies
+    element-write-slices
     returns)
