@@ -2,30 +2,33 @@
 use mathlib.Core.Logic.{_≢_}
 use mathlib.Core.Path.{_≡_, refl, sym, ap, subst, _∙_}
 use Prim.Native.Nat.{ℕ, _+_, _*_, _≤_, _<_}
-use mathlib.Core.Bool.{true, not}
+use mathlib.Core.Bool.{Bool, true, false, not, cond}
 use mathlib.Core.List.{List, [], _∷_, _++_}
 use lib.ListN.{length, getD, take, drop, length-append, length-take, length-drop}
 use lib.Seq.{length-take-le}
 use lib.Dec.{T}
 use native.Mathlib.Omega.{arith}
+use native.Mathlib.Decide.{ℕ-discrete}
 use borrow.Author.Tests.{ne-eqb, eqb-false}
 use denote.Enum.Declared.{tagOf}
 use mir.Val.{hasKey}
 use types.Run.{OneOf}
 use Rattle.lists.specs.Lists.{sum}
+use Rattle.lists.proofs.Tests.{clash}
 use Rattle.lists.proofs.Sums.{entry-le}
 use Rattle.lists.proofs.Parts.{row-end, part-at}
 use Rattle.lists.proofs.Tables.{zeros-after}
 use Rattle.units.specs.Units.{elapsedOf, nextOf}
 use Rattle.sheet.specs.Settings.{W, C}
 use Rattle.sheet.specs.declared.Settings.{Settings}
-use Rattle.model.specs.State.{thread, used, queueOf, wanted, State, Thread}
+use Rattle.model.specs.State.{thread, used, queueOf, idle, wanted, State, Thread}
 use Rattle.model.specs.Typed.{Lengths}
 use Rattle.model.specs.Event
 use Rattle.model.specs.Event.{kindOf, threadOf, stampOf, known}
 use Rattle.model.specs.Facts.{Settled}
-use Rattle.model.specs.Step.{Saved, saved, billed, charge, moveSlot, restart, act, apply}
-use Rattle.model.specs.Arrays.{Columns, Regular, tablesIn, withTables, stateOf}
+use Rattle.model.specs.Slices.{spent, ends}
+use Rattle.model.specs.Step.{Saved, saved, billed, charge, moveSlot, toTail, turned, sliced, ticked, restart, act, apply}
+use Rattle.model.specs.Arrays.{Columns, withSliceColumn, Regular, tablesIn, withTables, stateOf}
 use Rattle.model.specs.declared.Clock.{Clock}
 use Rattle.model.proofs.Bounds.{running-inside, charge-fits, total-fits, next-inside}
 use Rattle.model.proofs.Table.{thread-at, threads-length}
@@ -33,13 +36,15 @@ use Rattle.invariants.proofs.Acts.{act-settled}
 use Rattle.invariants.proofs.Charges.{used-length}
 use Rattle.invariants.proofs.Kept.{charge-settled, length-charge}
 use Rattle.invariants.proofs.Applied.{Left, named, apply-left}
+use Rattle.invariants.proofs.Turns.{none-above, sliced-queue}
 use Rattle.event.specs.declared.kinds.Action.{Action}
 use Rattle.event.specs.Kinds.{kindNumber}
 use Rattle.event.specs.Bytes.{bytesOf}
 use Rattle.event.specs.declared.Event.{Event}
 use Rattle.event.proofs.EventLaws.{known-form}
-use Rattle.threads.specs.Entries.{QueueStored, queueFrom}
-use Rattle.threads.proofs.EntriesLaws.{queue-eq}
+use Rattle.threads.specs.Turned.{Turning, Turned}
+use Rattle.threads.proofs.EntriesLaws.{queue-stored}
+use Rattle.threads.proofs.TurnsLaws.{turning-of, spent-idle}
 use Rattle.accounts.specs.Charged.{payerOf, Pays, Payable, Charged}
 use Rattle.accounts.proofs.ChargingLaws.{used-at, map-length}
 use Rattle.accounts.specs.Lowered as Slots
@@ -49,9 +54,12 @@ use Rattle.threads.specs.Able.{Able, Acted}
 use Rattle.threads.proofs.ActionsLaws.{act-ready, own-kind}
 use Rattle.event.proofs.kinds.Action
 use Rattle.event.proofs.Told.{told-not}
-use Rattle.decision.specs.Keeping.{KeptIn}
+use Rattle.decision.specs.Keeping as Keeping
+use Rattle.decision.specs.Keeping.{KeptIn, Lined}
 use Rattle.decision.specs.Upkeep.{HeldBy}
-use Rattle.decision.specs.Follow.{Followed}
+use Rattle.decision.specs.Follow.{Followed, FollowedTurn}
+use Rattle.decision.proofs.LeadsLaws.{tail-kept}
+use Rattle.decision.proofs.States.{lined, partition-is}
 use Rattle.decision.specs.declared.kept.Sets.{Sets}
 use Rattle.scheduler.specs.Effects.{Ready, Applied, Ticking, Ticked}
 
@@ -60,7 +68,7 @@ module _ (v : Saved) (b : List ℕ) where
   unfolding apply
   applied-resume e = rw e
 
-  applied-tick : kindOf b ≡ 1 → moveSlot (charge v (stampOf b)) ≡ apply v b
+  applied-tick : kindOf b ≡ 1 → ticked (charge v (stampOf b)) ≡ apply v b
   unfolding apply
   applied-tick e = rw e
 
@@ -85,6 +93,10 @@ charge-slot v stamp = refl
 charge-queued : (v : Saved) (stamp : ℕ) → charge v stamp .state .queued ≡ v .state .queued
 unfolding charge
 charge-queued v stamp = refl
+
+charge-running : (v : Saved) (stamp : ℕ) → charge v stamp .state .running ≡ v .state .running
+unfolding charge
+charge-running v stamp = refl
 
 charge-wanted : (v : Saved) (stamp : ℕ) → wanted (charge v stamp .state) ≡ wanted (v .state)
 unfolding charge
@@ -199,13 +211,108 @@ module _ (c : Settings) (u : List ℕ) (k : Clock) (ts : Columns) (q h budgets t
     weighed = w;
   }
 
-  pub ticked : kindOf b ≡ 1 → (u′ : List ℕ) (k′ : Clock) (h′ : List ℕ) (set′ : ℕ) → Ticked c u k p h u′ k′ h′ (x .stamp) → Reweighed u u′ budgets (C c) (sets .solvent) set′
-      → Applied c v u′ k′ ts q h′ budgets tops firsts (record { paying = sets .paying; competing = sets .competing; solvent = set′ }) b
-  ticked i u′ k′ h′ set′ d w = record {
-    state = d ts q ∙ ap (λ (j : ℕ). moveSlot (charge v j)) (g .stamped) ∙ applied-tick v b i;
-    sizes = g .sizes;
-    held = stays u′ k′ set′ (ap (λ (z : Saved). z .state .queued) (d ts q) ∙ move-queued (charge v (x .stamp)) ∙ charge-queued v (x .stamp)) (weighed u′ set′ w);
-  }
+  -- ---- a tick's slice
+
+  pub turning : (length (ts .policies) ≡ 64) × Turning (ts .slices) q (k .queued) (k .running)
+  turning = (g .sizes .sized .policies, turning-of c u k ts q h (g .sizes .sized .slices) (g .full) (g .accepted .fit .sound))
+
+  module _ (i : kindOf b ≡ 1) (u′ : List ℕ) (k′ : Clock) (h′ : List ℕ) (d : Ticked c u k p h u′ k′ h′ (x .stamp)) (l′ q′ : List ℕ)
+      (f : Turned (ts .policies) (ts .slices) q (k .queued) l′ q′ (k .running)) (long : length l′ ≡ 64) where
+    abbrev later : Columns
+    later = withSliceColumn ts l′
+
+    abbrev moved : State
+    moved = stateOf c u′ k′ ts q
+
+    same-queued : k′ .queued ≡ k .queued
+    same-queued = ap (λ (z : Saved). z .state .queued) (d ts q) ∙ move-queued (charge v (x .stamp)) ∙ charge-queued v (x .stamp)
+
+    -- the tick of the running thread, after the move to the next slot
+    counted-down : stateOf c u′ k′ later q′ ≡ sliced moved (k .running)
+    counted-down =
+        (λ j. withTables moved (tablesIn later q′ (same-queued j)))
+        ∙ f (ts .exists) (ts .ready) p (ts .priorities) (ts .masks) moved
+        ∙ (λ j. sliced (withTables moved (tablesIn ts q (sym same-queued j))) (k .running))
+
+    tick-state : saved (stateOf c u′ k′ later q′) h′ ≡ apply v b
+    tick-state =
+        ap (λ (z : State). saved z h′) counted-down
+        ∙ ap (λ (z : Saved). saved (sliced (z .state) (k .running)) (z .history)) (d ts q)
+        ∙ ap (λ (t : ℕ). saved (sliced (moveSlot (charge v (x .stamp)) .state) t) (moveSlot (charge v (x .stamp)) .history)) (sym (charge-running v (x .stamp)))
+        ∙ ap (λ (j : ℕ). ticked (charge v j)) (g .stamped) ∙ applied-tick v b i
+
+    abbrev over : Bool
+    over = spent (getD (ts .policies) (k .running) 0) (getD (ts .slices) (k .running) 0)
+
+    -- what the arrays tell of the running thread is its record's
+    over-is : ends (thread moved (k .running)) ≡ over
+    unfolding spent
+    over-is = go (ℕ-discrete (k .running) idle)
+      where
+        go : Dec (k .running ≡ idle) → ends (thread moved (k .running)) ≡ over
+        go (yes e) =
+            ap ends (none-above moved (k .running) (threads-length ts) (omega arith))
+            ∙ spent-idle (ts .policies) (getD (ts .slices) (k .running) 0) (k .running) (g .sizes .sized .policies) e
+        go (no n) = ap ends (thread-at ts (k .running) (turning .1 .inside n))
+
+    tick-line : take (k .queued) q′ ≡ cond over (toTail (take (k .queued) q) (k .running)) (take (k .queued) q)
+    unfolding turned
+    tick-line =
+        (λ j. take (sym same-queued j) q′) ∙ ap queueOf counted-down ∙ sliced-queue moved (k .running) (threads-length ts)
+        ∙ (λ j. cond (over-is j) (toTail (take (same-queued j) q) (k .running)) (take (same-queued j) q))
+
+    regular-later : Regular later
+    regular-later = record {
+      sized = record {
+        exists = g .sizes .sized .exists;
+        ready = g .sizes .sized .ready;
+        partitions = g .sizes .sized .partitions;
+        priorities = g .sizes .sized .priorities;
+        masks = g .sizes .sized .masks;
+        policies = g .sizes .sized .policies;
+        slices = long;
+      };
+      flags = g .sizes .flags;
+    }
+
+    pub followed-turn : (ended : Bool) → ended ≡ over
+        → FollowedTurn (c .core) p (ts .priorities) (ts .masks) q′ (k .queued) tops firsts (sets .competing) (k .running) ended
+    followed-turn ended e = record {
+      stays = λ f. subst (λ (l : List ℕ). KeptIn (c .core) p (ts .priorities) (ts .masks) l tops firsts (sets .competing)) (sym (line f)) (g .held .led);
+      inside = λ t. there t .0;
+      home = home;
+      walkable = λ t. subst (λ (j : ℕ). Lined p q′ j (c .core)) same-queued
+          (lined c u′ k′ later q′ regular-later h′ (subst (λ (z : Saved). Settled (z .state) (z .history)) (sym tick-state) (left .settled))
+          (ap (λ (z : Saved). length (z .state .queue)) tick-state ∙ left .lengths .queue));
+      moved = λ t. subst (λ (l : List ℕ). Keeping.Left (c .core) p (ts .priorities) (ts .masks) l tops firsts (sets .competing) (getD p (k .running) 0) (k .running)) (sym (line t))
+          (tail-kept (c .core) p (ts .priorities) (ts .masks) (take (k .queued) q) tops firsts (sets .competing) (k .running) (turning .1 .runs (on t)) (home t) (g .held .led));
+    }
+      where
+        line : {z : Bool} → ended ≡ z → take (k .queued) q′ ≡ cond z (toTail (take (k .queued) q) (k .running)) (take (k .queued) q)
+        line f = tick-line ∙ ap (λ (z : Bool). cond z (toTail (take (k .queued) q) (k .running)) (take (k .queued) q)) (sym e ∙ f)
+
+        -- while idle no slice ends
+        on : ended ≡ true → k .running ≢ idle
+        on t i = clash (sym e ∙ t) (sym (spent-idle (ts .policies) (getD (ts .slices) (k .running) 0) (k .running) (g .sizes .sized .policies) i))
+
+        there : ended ≡ true → (k .running < 64) × (thread s (k .running) .partition < c .count)
+        there t = running-inside s h (g .accepted .fit .sound) (on t)
+
+        home : ended ≡ true → getD p (k .running) 0 < 16
+        home t = omega (arith, there t .1, partition-is c u k ts q (g .sizes) (k .running), settled .limits .count-high)
+
+    pub tick-applied : (set′ competing′ : ℕ) (tops′ firsts′ : List ℕ) → Reweighed u u′ budgets (C c) (sets .solvent) set′
+        → KeptIn (c .core) p (ts .priorities) (ts .masks) (take (k .queued) q′) tops′ firsts′ competing′
+        → Applied c v u′ k′ later q′ h′ budgets tops′ firsts′ (record { paying = sets .paying; competing = competing′; solvent = set′ }) b
+    tick-applied set′ competing′ tops′ firsts′ w led = record {
+      state = tick-state;
+      sizes = regular-later;
+      held = record {
+        priced = g .held .priced;
+        led = subst (λ (j : ℕ). KeptIn (c .core) p (ts .priorities) (ts .masks) (take j q′) tops′ firsts′ competing′) (sym same-queued) led;
+        weighed = weighed u′ set′ w;
+      };
+    }
 
   pub resumed : kindOf b ≡ 7 → (u′ : List ℕ) (k′ : Clock) (h′ : List ℕ) (set′ : ℕ) → Restarted c u k h u′ k′ h′ (x .stamp) → WeighedIn u′ budgets (C c) (c .count) set′
       → Applied c v u′ k′ ts q h′ budgets tops firsts (record { paying = sets .paying; competing = sets .competing; solvent = set′ }) b
@@ -233,18 +340,12 @@ module _ (c : Settings) (u : List ℕ) (k : Clock) (ts : Columns) (q h budgets t
         let most : length (queueOf s ++ (threadOf b ∷ [])) ≤ 64 = subst (λ (i : State). i .queued ≤ 64) (act-ready s b is) (z .stored .few) in
         omega (arith, length-append (queueOf s) (threadOf b ∷ []), most, length-take-le (k .queued) q (omega (arith, settled .stored .few, g .full)))
 
-    stored : QueueStored q (k .queued)
-    unfolding queueFrom
-    stored =
-        queue-eq (zeros-after q (k .queued) 64 (g .full) (settled .stored .few) (settled .stored .zeros))
-        (sym (length-take-le (k .queued) q (omega (arith, settled .stored .few, g .full))))
-
     pub able : Able ts q (k .queued) b
     able =
         record {
           thread-inside = g .accepted .named .thread-inside;
           sizes = g .sizes;
-          stored = stored;
+          stored = queue-stored q (k .queued) (g .full) (settled .stored);
           few = settled .stored .few;
           once = settled .queue .once;
           free = free;

@@ -34,7 +34,7 @@ pub record Applied (c : Settings) (v : Saved) (u : List ℕ) (k : Clock) (ts : C
   pub sizes : Regular ts
   pub held : HeldBy c u k ts q budgets tops firsts sets
 
--- a tick can be done: the charge, and after any charge the move
+-- a tick's charge can be done, and after any charge the move
 pub record Ticking (c : Settings) (u : List ℕ) (k : Clock) (p h : List ℕ) (stamp : ℕ) : Type 0 where
   pub payable : Payable c u k p h stamp
   pub movable : (u′ : List ℕ) (k′ : Clock) (h′ : List ℕ) → Charged c u k p h u′ k′ h′ stamp

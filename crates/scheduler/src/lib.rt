@@ -74,6 +74,7 @@ fn accept(
     );
     let after = d.sets;
     let decision = kept::choose(settings, used, budgets, tops, firsts, after);
+    let running = decision.thread as u32;
     let k = d.clock;
     let slot = k.slot;
     let since = k.since;
@@ -82,7 +83,7 @@ fn accept(
         slot: slot,
         since: since,
         queued: k.queued,
-        running: decision.thread as u32,
+        running: running,
     };
     Stepped {
         verdict: Verdict::Decided(decision),

@@ -23,6 +23,7 @@ pub fn turn(
     ensures { λ r. ⌜
         (r ≡ spent (getD (now (policies .entry)) running 0) (getD (now (slices .entry)) running 0))
         × Turned (now (policies .entry)) (now (slices .entry)) (now (queue .entry)) queued (now (slices .exit)) (now (queue .exit)) running
+        × (length (now (slices .exit)) ≡ 64)
         ⌝ }
 {
     if running == IDLE {

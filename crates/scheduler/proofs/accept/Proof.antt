@@ -7,26 +7,26 @@ use Rattle.scheduler.proofs.accept.Tie as tie
 
 apply-requires : tie.Need-apply-requires
 apply-requires c κs =
-    let a = c .before .before .before .before .before .before .before .before .before .before .before .args in
-    let g = c .before .before .before .before .before .before .before .before .before .before .before .pre in
+    let a = c .before .before .before .before .before .before .before .before .before .before .before .before .before .args in
+    let g = c .before .before .before .before .before .before .before .before .before .before .before .before .before .pre in
     ready (a .settings) (now (a .used)) (a .c) (columns (now (a .exists)) (now (a .ready)) (now (a .partitions)) (now (a .priorities)) (now (a .masks)) (now (a .policies)) (now (a .slices))) (now (a .queue)) (now (a .history)) (now (a .budgets)) (now (a .tops)) (now (a .firsts)) (a .sets) (g .0) (a .event) (g .1) (g .2)
 
 choose-requires : tie.Need-choose-requires
 choose-requires c κs = search needs
 
-cast-t37 : tie.Need-cast-t37
-cast-t37 c = search needs
+cast-running : tie.Need-cast-running
+cast-running c = search needs
 
 same-length : tie.Need-same-length
 same-length c = search needs
 
 returns : tie.Need-returns
 returns c =
-    let a = c .before .before .before .before .before .before .before .before .before .before .before .before .before .before .before .before .before .before .before .before .before .before .before .args in
-    let g = c .before .before .before .before .before .before .before .before .before .before .before .before .before .before .before .before .before .before .before .before .before .before .before .pre in
+    let a = c .before .before .before .before .before .before .before .before .before .before .before .before .before .before .before .before .before .before .before .before .before .before .before .before .before .args in
+    let g = c .before .before .before .before .before .before .before .before .before .before .before .before .before .before .before .before .before .before .before .before .before .before .before .before .before .pre in
     let d = c .before .before .before .before .before .before .before .before .before .before .before .apply in
     let w = c .before .before .before .before .choose in
     decided (a .settings) (now (a .used)) (a .c) (columns (now (a .exists)) (now (a .ready)) (now (a .partitions)) (now (a .priorities)) (now (a .masks)) (now (a .policies)) (now (a .slices))) (now (a .queue)) (now (a .history)) (now (a .budgets)) (now (a .tops)) (now (a .firsts)) (a .sets) (g .0) (a .event) (g .1) (g .2) (d .last .1 .0) (d .result .clock) _ _ _ _ _ (d .result .sets) (w .result) (d .ensures) (w .ensures)
 
 pub accept-spec : {M : Type 1} → statement M
-accept-spec = tie.close (tie.spec apply-requires choose-requires cast-t37 same-length returns)
+accept-spec = tie.close (tie.spec apply-requires choose-requires cast-running same-length returns)

@@ -25,7 +25,7 @@ abbrev decoded : tie.After-refused-event → tie.After-decode
 decoded c = c .before .before .before
 
 abbrev threads : tie.After-refused-event → Columns
-threads c = let a = start c .args in columns (now (a .exists)) (now (a .ready)) (now (a .partitions)) (now (a .priorities)) (now (a .masks))
+threads c = let a = start c .args in columns (now (a .exists)) (now (a .ready)) (now (a .partitions)) (now (a .priorities)) (now (a .masks)) (now (a .policies)) (now (a .slices))
 
 abbrev given : tie.After-refused-event → State
 given c = let a = start c .args in stateOf (a .settings) (now (a .used)) (a .c) (threads c) (now (a .queue))
@@ -60,10 +60,10 @@ enum-told c = search needs
 
 accept-requires : tie.Need-accept-requires
 accept-requires c κs =
-    let t = c .before .before .before .before .before .before .before .before .before .before .before .before .before in
+    let t = c .before .before .before .before .before .before .before .before .before .before .before .before .before .before .before in
     let a = start t .args in
     let g = start t .pre in
-    let f = c .before .before .before .before .before .before .before .before .before .before .enum-told .given .1 in
+    let f = c .before .before .before .before .before .before .before .before .before .before .before .before .enum-told .given .1 in
     let e = taken t f in
     (g, taken-event (a .settings) (now (a .used)) (a .c) (threads t) (now (a .queue)) (now (a .history)) (now (a .budgets)) (now (a .tops)) (now (a .firsts)) (a .sets) g (bytesOf (decoded t .decode .result .event)) (t .refused-event .result) f (number t ∙ ap (refusedEvent (given t)) (e .0)), e .1 ∙ ap stampOf (e .0))
 
@@ -82,14 +82,14 @@ same-length c = search needs
 
 returns-2 : tie.Need-returns-2
 returns-2 c =
-    let t = c .before .before .before .before .before .before .before .before .before .before .before .before .before .before .before .before in
+    let t = c .before .before .before .before .before .before .before .before .before .before .before .before .before .before .before .before .before .before in
     let a = start t .args in
     let g = start t .pre in
     let d = c .before .before .accept in
-    let f = c .before .before .before .before .before .before .before .before .before .before .before .before .before .enum-told .given .1 in
+    let f = c .before .before .before .before .before .before .before .before .before .before .before .before .before .before .before .enum-told .given .1 in
     let e = taken t f in
     let b = bytesOf (decoded t .decode .result .event) in (
-      subst (λ (l : List ℕ). StepAnswered (a .settings) (saved (given t) (now (a .history))) l (d .result .verdict) (d .last .1 .0) (d .result .clock) (columns (d .last .1 .1 .0) (d .last .1 .1 .1 .0) (d .last .1 .1 .1 .1 .0) (d .last .1 .1 .1 .1 .1 .0) (d .last .1 .1 .1 .1 .1 .1 .0)) (d .last .1 .1 .1 .1 .1 .1 .1 .0) (d .last .1 .1 .1 .1 .1 .1 .1 .1 .1 .1 .1 .0) (now (a .budgets)) (d .last .1 .1 .1 .1 .1 .1 .1 .1 .1 .0) (d .last .1 .1 .1 .1 .1 .1 .1 .1 .1 .1 .0) (d .result .sets)) (sym (e .0)) (d .ensures),
+      subst (λ (l : List ℕ). StepAnswered (a .settings) (saved (given t) (now (a .history))) l (d .result .verdict) (d .last .1 .0) (d .result .clock) (columns (d .last .1 .1 .0) (d .last .1 .1 .1 .0) (d .last .1 .1 .1 .1 .0) (d .last .1 .1 .1 .1 .1 .0) (d .last .1 .1 .1 .1 .1 .1 .0) (d .last .1 .1 .1 .1 .1 .1 .1 .0) (d .last .1 .1 .1 .1 .1 .1 .1 .1 .0)) (d .last .1 .1 .1 .1 .1 .1 .1 .1 .1 .0) (d .last .1 .1 .1 .1 .1 .1 .1 .1 .1 .1 .1 .1 .1 .0) (now (a .budgets)) (d .last .1 .1 .1 .1 .1 .1 .1 .1 .1 .1 .1 .0) (d .last .1 .1 .1 .1 .1 .1 .1 .1 .1 .1 .1 .1 .0) (d .result .sets)) (sym (e .0)) (d .ensures),
       λ no. absurd (taken-still (a .settings) (now (a .used)) (a .c) (threads t) (now (a .queue)) (now (a .history)) (now (a .budgets)) (now (a .tops)) (now (a .firsts)) (a .sets) g (now (a .event)) b (e .0) (taken-event (a .settings) (now (a .used)) (a .c) (threads t) (now (a .queue)) (now (a .history)) (now (a .budgets)) (now (a .tops)) (now (a .firsts)) (a .sets) g b (t .refused-event .result) f (number t ∙ ap (refusedEvent (given t)) (e .0))) no),
     )
 

@@ -27,15 +27,15 @@ pay-requires c κs =
 
 act-requires : tie.Need-act-requires
 act-requires c κs =
-    let a = c .before .before .before .before .before .before .before .before .before .before .before .before .before .before .args in
-    let g = c .before .before .before .before .before .before .before .before .before .before .before .before .before .before .pre in
+    let a = c .before .before .before .before .before .before .before .before .before .before .before .before .before .before .before .before .args in
+    let g = c .before .before .before .before .before .before .before .before .before .before .before .before .before .before .before .before .pre in
     able (a .settings) (now (a .used)) (a .c) (columns (now (a .exists)) (now (a .ready)) (now (a .partitions)) (now (a .priorities)) (now (a .masks)) (now (a .policies)) (now (a .slices))) (now (a .queue)) (now (a .history)) (now (a .budgets)) (now (a .tops)) (now (a .firsts)) (a .sets) (a .event) (g .0) (g .1) (g .2)
 
 follow-requires : tie.Need-follow-requires
 follow-requires c κs =
-    let a = c .before .before .before .before .before .before .before .before .before .before .before .before .before .before .before .before .before .before .before .before .before .before .args in
-    let g = c .before .before .before .before .before .before .before .before .before .before .before .before .before .before .before .before .before .before .before .before .before .before .pre in
-    let d = c .before .before .before .before .before .before .before .before .before .before .before .before .before .before .before .before .pay in
+    let a = c .before .before .before .before .before .before .before .before .before .before .before .before .before .before .before .before .before .before .before .before .before .before .before .before .args in
+    let g = c .before .before .before .before .before .before .before .before .before .before .before .before .before .before .before .before .before .before .before .before .before .before .before .before .pre in
+    let d = c .before .before .before .before .before .before .before .before .before .before .before .before .before .before .before .before .before .before .pay in
     let f = c .before .before .before .before .before .before .before .act in
     followed (a .settings) (now (a .used)) (a .c) (columns (now (a .exists)) (now (a .ready)) (now (a .partitions)) (now (a .priorities)) (now (a .masks)) (now (a .policies)) (now (a .slices))) (now (a .queue)) (now (a .history)) (now (a .budgets)) (now (a .tops)) (now (a .firsts)) (a .sets) (a .event) (g .0) (g .1) (g .2) (d .last .1 .0) (d .result .clock) _ _ _ (f .result) (d .ensures .0) (f .ensures .0) (f .ensures .1) (a .event .action) (a .event .thread) _ refl refl refl
 
@@ -44,9 +44,9 @@ same-length c = search needs
 
 returns : tie.Need-returns
 returns c =
-    let a = c .before .before .before .before .before .before .before .before .before .before .before .before .before .before .before .before .before .before .before .before .before .before .before .before .before .before .args in
-    let g = c .before .before .before .before .before .before .before .before .before .before .before .before .before .before .before .before .before .before .before .before .before .before .before .before .before .before .pre in
-    let d = c .before .before .before .before .before .before .before .before .before .before .before .before .before .before .before .before .before .before .before .before .pay in
+    let a = c .before .before .before .before .before .before .before .before .before .before .before .before .before .before .before .before .before .before .before .before .before .before .before .before .before .before .before .before .args in
+    let g = c .before .before .before .before .before .before .before .before .before .before .before .before .before .before .before .before .before .before .before .before .before .before .before .before .before .before .before .before .pre in
+    let d = c .before .before .before .before .before .before .before .before .before .before .before .before .before .before .before .before .before .before .before .before .before .before .pay in
     let f = c .before .before .before .before .before .before .before .before .before .before .before .act in
     let l = c .before .before .before .follow in
     applied (a .settings) (now (a .used)) (a .c) (columns (now (a .exists)) (now (a .ready)) (now (a .partitions)) (now (a .priorities)) (now (a .masks)) (now (a .policies)) (now (a .slices))) (now (a .queue)) (now (a .history)) (now (a .budgets)) (now (a .tops)) (now (a .firsts)) (a .sets) (a .event) (g .0) (g .1) (g .2) (d .last .1 .0) (d .result .clock) _ _ _ (f .result) (d .ensures .0) (f .ensures .0) (f .ensures .1) (l .last .0) (l .last .1 .0) (l .result) (d .result .solvent) (d .ensures .1) (l .ensures)

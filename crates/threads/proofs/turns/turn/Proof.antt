@@ -1,6 +1,6 @@
 use mathlib.Core.Path.{sym, _∙_}
 use native.Mathlib.Omega.{arith}
-use lib.ListN.{getD}
+use lib.ListN.{getD, length-set}
 use borrow.Author.Tests.{not-true, not-false}
 use denote.Ref.{now}
 use Rattle.threads.proofs.TasksLaws.{spent-other}
@@ -15,6 +15,7 @@ returns c =
     let a = start .args in (
       spent-idle (now (a .policies)) (getD (now (a .slices)) (a .running) 0) (a .running) (start .pre .0) (c .if1 .taken),
       turned-idle (now (a .policies)) (now (a .slices)) (now (a .queue)) (a .queued) (a .running) (start .pre .1 .stored) (c .if1 .taken),
+      start .pre .1 .slices,
     )
 
 element-copy-out-policy : tie.Need-element-copy-out-policy
@@ -27,6 +28,7 @@ returns-2 c =
     let on = start .pre .1 .inside (c .before .before .if1 .left) in (
       spent-other (getD (now (a .policies)) (a .running) 0) (getD (now (a .slices)) (a .running) 0) (c .if2 .taken),
       turned-other (now (a .policies)) (now (a .slices)) (now (a .queue)) (a .queued) (a .running) (start .pre .1 .slices) on (start .pre .1 .stored) (c .if2 .taken),
+      start .pre .1 .slices,
     )
 
 element-copy-out-slice : tie.Need-element-copy-out-slice
@@ -51,6 +53,7 @@ returns-3 c =
     let more = sym (told .ensures) ∙ not-true (told .result) (c .if3 .taken) in (
       sym more,
       turned-stays (now (a .policies)) (now (a .slices)) (now (a .queue)) (a .queued) (a .running) (left .result) (start .pre .1 .slices) on (start .pre .1 .stored) (left .ensures) more,
+      length-set (now (a .slices)) (a .running) (left .result) ∙ start .pre .1 .slices,
     )
 
 cast-to-tail : tie.Need-cast-to-tail
@@ -72,6 +75,7 @@ returns-4 c =
     let last = sym (told .ensures) ∙ not-false (told .result) (c .before .before .if3 .left) in (
       sym last,
       turned-last (now (a .policies)) (now (a .slices)) (now (a .queue)) (a .queued) (a .running) (left .result) _ (start .pre .1 .slices) on (left .ensures) last (c .to-tail .ensures),
+      length-set (now (a .slices)) (a .running) (left .result) ∙ start .pre .1 .slices,
     )
 
 pub turn-spec : {M : Type 1} → statement M
