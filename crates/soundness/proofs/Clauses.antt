@@ -1,19 +1,20 @@
 -- The test of one thread's numbers, as the code makes it, and what it comes to over all threads.
 use mathlib.Core.Path.{_≡_, refl, ap, _∙_}
-use Prim.Native.Nat.{ℕ, _+_, _%_, _^_, min, max, _≤_, _<_}
+use Prim.Native.Nat.{ℕ, _+_, _*_, _/_, _%_, _^_, min, max, _≤_, _<_}
 use mathlib.Core.Bool.{Bool, true, false, not, cond, _&&_, and-true, and-false}
-use lib.Bits.{bitAnd, bitOr, and-mask, and-zero-r, or-zero-r, or-lt, or-add-and, and-le-l}
+use lib.Bits.{bitAnd, bitOr, and-mask, and-high, and-zero-r, or-zero-r, or-lt, or-add-and, and-le-l}
+use lib.Pow.{shr-mod}
 use lib.Dec.{eqb, leb, ltb}
 use lib.ListN.{getD}
 use native.Mathlib.Omega.{arith}
 use native.Mathlib.Decide.{ℕ-discrete, decLt}
-use borrow.Author.Tests.{lt-ltb, le-ltb, le-leb, lt-leb, eq-eqb, ne-eqb}
+use borrow.Author.Tests.{lt-ltb, le-ltb, le-leb, lt-leb, leb-true, eq-eqb, ne-eqb}
 use Rattle.lists.specs.Lists.{below, all}
 use Rattle.lists.proofs.Every.{all-both}
 use Rattle.lists.proofs.Union.{or-below, or-none}
 use Rattle.model.specs.Arrays.{Columns, threadIn, plain}
-use Rattle.model.specs.Sound.{soundThread}
-use Rattle.soundness.specs.Records.{soundRecords, OfAbsent, OfExisting}
+use Rattle.model.specs.Sound.{soundThread, soundSlice}
+use Rattle.soundness.specs.Records.{soundRecords, OfAbsent, OfExisting, sliceFits, WrongSlice}
 
 -- ---- a byte and the flag less 1, which is g
 
@@ -36,6 +37,27 @@ of-existing e x g small fits h b = go (ℕ-discrete e 1)
     go : Dec (e ≡ 1) → bitOr x g ≡ cond (eqb e 1) x 255
     go (yes y) = let k : g ≡ 0 = omega arith in rw (eq-eqb e 1 y, k) (or-zero-r x)
     go (no y) = let k : g ≡ 255 = omega arith in rw (ne-eqb e 1 y, k) (full x small)
+
+-- ---- a slice: x is the slice less the policy, and g the policy less 1
+
+-- all bits but the lowest two
+high-bits : (x : ℕ) → x < 256 → bitAnd x 252 ≡ x / 4 * 4
+high-bits x h = and-high x 6 2 ∙ ap (λ (q : ℕ). q * 4) (shr-mod 6 2 h)
+
+pub wrong-slice : (o l x g : ℕ) → l < 256 → x < 256 → g < 256 → (x + o) % 2 ^ 8 ≡ l → (g + 1) % 2 ^ 8 ≡ o → WrongSlice o l (bitAnd x (bitOr g 252))
+wrong-slice o l x g small fits low d e b = go (ℕ-discrete o 1) (decLt x 4) (ℕ-discrete l 0)
+  where
+    go : Dec (o ≡ 1) → Dec (x < 4) → Dec (l ≡ 0) → eqb (bitAnd x (bitOr g 252)) 0 ≡ sliceFits o l
+    go (no y) z w = let k : g ≡ 255 = omega arith in let m : x ≡ l = omega arith in rw (k, m, ne-eqb o 1 y, and-mask l 8, mod-small l small)
+    go (yes y) (yes z) w =
+        let k : g ≡ 0 = omega arith in
+        rw (k, eq-eqb o 1 y, high-bits x fits, eq-eqb (x / 4 * 4) 0 (omega arith), le-leb 1 l (omega arith), le-leb l 4 (omega arith))
+    go (yes y) (no z) (yes w) =
+        let k : g ≡ 0 = omega arith in
+        rw (k, eq-eqb o 1 y, high-bits x fits, ne-eqb (x / 4 * 4) 0 (λ v. omega arith), lt-leb 1 l (omega arith))
+    go (yes y) (no z) (no w) =
+        let k : g ≡ 0 = omega arith in
+        rw (k, eq-eqb o 1 y, high-bits x fits, ne-eqb (x / 4 * 4) 0 (λ v. omega arith), lt-leb l 4 (omega arith), and-false (leb 1 l))
 
 -- ---- what is joined
 
@@ -88,42 +110,65 @@ some x = go (decLt 0 x)
     go (yes p) = rw (lt-ltb 0 x p, ne-eqb x 0 (λ z. omega arith))
     go (no p) = rw (le-ltb 0 x (omega arith), eq-eqb x 0 (omega arith))
 
-turn : (x y z : Bool) → ((x && true) && y && z) ≡ (x && (z && y))
-turn true true true = refl
-turn true true false = refl
-turn true false true = refl
-turn true false false = refl
-turn false y z = refl
-
-blank : (count r p : ℕ) (n m : Bool) → 1 ≤ count
-    → (leb r 1 && (eqb r 0 && eqb p 0 && n && m) && true && ltb p count) ≡ (leb r 1 && (not (eqb r 1) && eqb p 0 && n && m))
-blank count r p n m h = go (ℕ-discrete r 0) (ℕ-discrete p 0) (ℕ-discrete r 1)
+-- of a thread that exists; s is the test of its slice, where its policy o is 0 or 1
+turn : (x o s s′ y z : Bool) → (o ≡ true → s ≡ s′) → ((x && o) && s && y && z) ≡ (x && (z && y && (o && s′)))
+turn false o s s′ y z e = refl
+turn true false s s′ y z e = rw (and-false (z && y))
+turn true true s s′ y z e = rw (e refl) (go s′ y z)
   where
+    go : (s y z : Bool) → (s && y && z) ≡ (z && y && s)
+    go true true true = refl
+    go true true false = refl
+    go true false true = refl
+    go true false false = refl
+    go false y z = rw (and-false (z && y))
+
+-- of one that does not
+blank : (count r p : ℕ) (n m o l : Bool) → 1 ≤ count
+    → (leb r 1 && (eqb r 0 && eqb p 0 && n && m && o && l) && true && ltb p count) ≡ (leb r 1 && (not (eqb r 1) && eqb p 0 && n && m && o && l))
+blank count r p n m o l h = go (ℕ-discrete r 0) (ℕ-discrete p 0) (ℕ-discrete r 1)
+  where
+    k : Bool
+    k = n && m && o && l
+
     go : Dec (r ≡ 0) → Dec (p ≡ 0) → Dec (r ≡ 1)
-        → (leb r 1 && (eqb r 0 && eqb p 0 && n && m) && true && ltb p count) ≡ (leb r 1 && (not (eqb r 1) && eqb p 0 && n && m))
+        → (leb r 1 && (eqb r 0 && eqb p 0 && n && m && o && l) && true && ltb p count) ≡ (leb r 1 && (not (eqb r 1) && eqb p 0 && n && m && o && l))
     go (yes x) (yes y) z =
-        rw (le-leb r 1 (omega arith), eq-eqb r 0 x, ne-eqb r 1 (λ v. omega arith), eq-eqb p 0 y, lt-ltb p count (omega arith), and-true (n && m), and-true (n && m))
+        rw (le-leb r 1 (omega arith), eq-eqb r 0 x, ne-eqb r 1 (λ v. omega arith), eq-eqb p 0 y, lt-ltb p count (omega arith), and-true k, and-true k)
     go (yes x) (no y) z = rw (le-leb r 1 (omega arith), eq-eqb r 0 x, ne-eqb r 1 (λ v. omega arith), ne-eqb p 0 y)
     go (no x) y (yes z) = rw (le-leb r 1 (omega arith), ne-eqb r 0 x, eq-eqb r 1 z)
     go (no x) y (no z) = rw (lt-leb r 1 (omega arith))
 
--- a thread's numbers are sound, and its flags 0 or 1
-abbrev pub proper : ℕ → ℕ → ℕ → ℕ → ℕ → ℕ → Bool
-proper count e r p n m =
-    (leb e 1 && leb r 1) && cond (eqb e 1) (ltb p count && not (eqb m 0)) (not (eqb r 1) && eqb p 0 && eqb n 0 && eqb m 0)
-
-answer-is : (count e r p n m a b : ℕ) → 1 ≤ count → OfAbsent e (bitOr (bitOr (bitOr r p) n) m) a → OfExisting e m b
-    → answer count (bitOr e r) a b p ≡ proper count e r p n m
-answer-is count e r p n m a b h f g = go (ℕ-discrete e 0) (ℕ-discrete e 1)
+blank-turn : (count r p o l w : ℕ) (n m : Bool) → 1 ≤ count → WrongSlice o l w
+    → ((leb r 1 && leb o 1) && ((eqb r 0 && eqb p 0 && n && m && eqb o 0) && eqb w 0) && true && ltb p count)
+    ≡ (leb r 1 && (not (eqb r 1) && eqb p 0 && n && m && eqb o 0 && eqb l 0))
+blank-turn count r p o l w n m h s = go (ℕ-discrete o 0)
   where
-    go : Dec (e ≡ 0) → Dec (e ≡ 1) → answer count (bitOr e r) a b p ≡ proper count e r p n m
+    go : Dec (o ≡ 0)
+        → ((leb r 1 && leb o 1) && ((eqb r 0 && eqb p 0 && n && m && eqb o 0) && eqb w 0) && true && ltb p count)
+        ≡ (leb r 1 && (not (eqb r 1) && eqb p 0 && n && m && eqb o 0 && eqb l 0))
+    go (yes x) = rw (s (omega arith), x, and-true (leb r 1)) (blank count r p n m true (eqb l 0) h)
+    go (no x) = rw (ne-eqb o 0 x, and-false (eqb r 0 && eqb p 0 && n && m), and-false (leb r 1 && leb o 1), and-false (not (eqb r 1) && eqb p 0 && n && m), and-false (leb r 1))
+
+-- a thread's numbers are sound, and its flags 0 or 1
+abbrev pub proper : ℕ → ℕ → ℕ → ℕ → ℕ → ℕ → ℕ → ℕ → Bool
+proper count e r p n m o l =
+    (leb e 1 && leb r 1)
+    && cond (eqb e 1) (ltb p count && not (eqb m 0) && (leb o 1 && sliceFits o l)) (not (eqb r 1) && eqb p 0 && eqb n 0 && eqb m 0 && eqb o 0 && eqb l 0)
+
+answer-is : (count e r p n m o l a b w : ℕ) → 1 ≤ count → OfAbsent e (bitOr (bitOr (bitOr (bitOr r p) n) m) o) a → OfExisting e m b → WrongSlice o l w
+    → answer count (bitOr (bitOr e r) o) (bitOr a w) b p ≡ proper count e r p n m o l
+answer-is count e r p n m o l a b w h f g s = go (ℕ-discrete e 0) (ℕ-discrete e 1)
+  where
+    go : Dec (e ≡ 0) → Dec (e ≡ 1) → answer count (bitOr (bitOr e r) o) (bitOr a w) b p ≡ proper count e r p n m o l
     go (yes x) y =
-        rw (← or-below 1 e r, lt-ltb e 2 (omega arith), two r, f (omega arith), g (omega arith), ne-eqb e 1 (λ v. omega arith), le-leb e 1 (omega arith))
-        (rw (← or-none (bitOr (bitOr r p) n) m, ← or-none (bitOr r p) n, ← or-none r p) (blank count r p (eqb n 0) (eqb m 0) h))
+        rw (← or-below 1 (bitOr e r) o, ← or-below 1 e r, ← or-none a w, lt-ltb e 2 (omega arith), two r, two o, f (omega arith), g (omega arith), ne-eqb e 1 (λ v. omega arith), le-leb e 1 (omega arith))
+        (rw (← or-none (bitOr (bitOr (bitOr r p) n) m) o, ← or-none (bitOr (bitOr r p) n) m, ← or-none (bitOr r p) n, ← or-none r p)
+        (blank-turn count r p o l w (eqb n 0) (eqb m 0) h s))
     go (no x) (yes y) =
-        rw (← or-below 1 e r, lt-ltb e 2 (omega arith), two r, f (omega arith), g (omega arith), eq-eqb e 1 y, le-leb e 1 (omega arith), some m)
-        (turn (leb r 1) (not (eqb m 0)) (ltb p count))
-    go (no x) (no y) = rw (← or-below 1 e r, le-ltb e 2 (omega arith), lt-leb e 1 (omega arith))
+        rw (← or-below 1 (bitOr e r) o, ← or-below 1 e r, ← or-none a w, lt-ltb e 2 (omega arith), two r, two o, f (omega arith), g (omega arith), eq-eqb e 1 y, le-leb e 1 (omega arith), some m)
+        (turn (leb r 1) (leb o 1) (eqb w 0) (sliceFits o l) (not (eqb m 0)) (ltb p count) (λ v. s (leb-true o 1 v)))
+    go (no x) (no y) = rw (← or-below 1 (bitOr e r) o, ← or-below 1 e r, le-ltb e 2 (omega arith), lt-leb e 1 (omega arith))
 
 -- ---- all threads
 
@@ -133,14 +178,16 @@ fine count ts t = (leb (getD (ts .exists) t 0) 1 && leb (getD (ts .ready) t 0) 1
 
 module _ (count : ℕ) (ts : Columns) where
   -- one thread more
-  pub fine-more : (t flags rest least most a b : ℕ) → 1 ≤ count
-      → OfAbsent (getD (ts .exists) t 0) (bitOr (bitOr (bitOr (getD (ts .ready) t 0) (getD (ts .partitions) t 0)) (getD (ts .priorities) t 0)) (getD (ts .masks) t 0)) a → OfExisting (getD (ts .exists) t 0) (getD (ts .masks) t 0) b
-      → answer count (bitOr flags (bitOr (getD (ts .exists) t 0) (getD (ts .ready) t 0))) (bitOr rest a) (min least b) (max most (getD (ts .partitions) t 0))
+  pub fine-more : (t flags rest least most a b w : ℕ) → 1 ≤ count
+      → OfAbsent (getD (ts .exists) t 0) (bitOr (bitOr (bitOr (bitOr (getD (ts .ready) t 0) (getD (ts .partitions) t 0)) (getD (ts .priorities) t 0)) (getD (ts .masks) t 0)) (getD (ts .policies) t 0)) a
+      → OfExisting (getD (ts .exists) t 0) (getD (ts .masks) t 0) b
+      → WrongSlice (getD (ts .policies) t 0) (getD (ts .slices) t 0) w
+      → answer count (bitOr flags (bitOr (bitOr (getD (ts .exists) t 0) (getD (ts .ready) t 0)) (getD (ts .policies) t 0))) (bitOr rest (bitOr a w)) (min least b) (max most (getD (ts .partitions) t 0))
       ≡ (answer count flags rest least most && fine count ts t)
-  unfolding soundThread
-  fine-more t flags rest least most a b h f g =
-      joined count flags rest least most (bitOr (getD (ts .exists) t 0) (getD (ts .ready) t 0)) a b (getD (ts .partitions) t 0)
-      ∙ ap (λ (z : Bool). answer count flags rest least most && z) (answer-is count (getD (ts .exists) t 0) (getD (ts .ready) t 0) (getD (ts .partitions) t 0) (getD (ts .priorities) t 0) (getD (ts .masks) t 0) a b h f g)
+  unfolding soundThread soundSlice
+  fine-more t flags rest least most a b w h f g s =
+      joined count flags rest least most (bitOr (bitOr (getD (ts .exists) t 0) (getD (ts .ready) t 0)) (getD (ts .policies) t 0)) (bitOr a w) b (getD (ts .partitions) t 0)
+      ∙ ap (λ (z : Bool). answer count flags rest least most && z) (answer-is count (getD (ts .exists) t 0) (getD (ts .ready) t 0) (getD (ts .partitions) t 0) (getD (ts .priorities) t 0) (getD (ts .masks) t 0) (getD (ts .policies) t 0) (getD (ts .slices) t 0) a b w h f g s)
 
   pub fine-all : all (fine count ts) (below 64) ≡ soundRecords count ts
   unfolding soundRecords plain

@@ -89,15 +89,13 @@ module _ (c : Settings) (u : List ℕ) (k : Clock) (ts : Columns) (q : List ℕ)
     exist =
         below-all (λ t. not (thread view t .ready) || thread view t .exists) 64
         (λ t b. ap (λ (x : Thread). not (x .ready) || x .exists) (thread-at ts t b)
-        ∙ go (eqb (getD (ts .exists) t 0) 1) (eqb (getD (ts .ready) t 0) 1) (getD (ts .partitions) t 0) (getD (ts .priorities) t 0) (getD (ts .masks) t 0) (all-below (λ i. soundThread (c .count) (threadIn ts i)) 64 proper t b))
+        ∙ go (eqb (getD (ts .exists) t 0) 1) (eqb (getD (ts .ready) t 0) 1) (getD (ts .partitions) t 0) (getD (ts .priorities) t 0) (getD (ts .masks) t 0) (getD (ts .policies) t 0) (getD (ts .slices) t 0) (all-below (λ i. soundThread (c .count) (threadIn ts i)) 64 proper t b))
       where
-        go : (x y : Bool) (i j l : ℕ) → soundThread (c .count) (record { exists = x; ready = y; partition = i; priority = j; mask = l }) ≡ true → (not y || x) ≡ true
-        go true y i j l s = or-true (not y)
-        go false y i j l s =
-            let (a, _) = both (not y && eqb i 0 && eqb j 0) (eqb l 0) s in
-            let (b, _) = both (not y && eqb i 0) (eqb j 0) a in
-            let (d, _) = both (not y) (eqb i 0) b in
-            rw d
+        go : (x y : Bool) (p n m o l : ℕ)
+            → soundThread (c .count) (record { exists = x; ready = y; partition = p; priority = n; mask = m; policy = o; slice = l }) ≡ true → (not y || x) ≡ true
+        go true y p n m o l s = or-true (not y)
+        go false true p n m o l s = clash s refl
+        go false false p n m o l s = refl
 
     pub queue-is : soundQueue view ≡ holdsReady (ts .ready) q (k .queued)
     unfolding soundQueue holdsReady

@@ -2,9 +2,10 @@
 use mathlib.Core.Path.{_≡_}
 use Prim.Native.Nat.{ℕ, _≤_}
 use mathlib.Core.Bool.{Bool, cond, _&&_}
-use lib.Dec.{eqb}
+use lib.Dec.{eqb, leb}
 use Rattle.lists.specs.Lists.{below, all}
 use Rattle.model.specs.Arrays.{Columns, threadIn, flagsFit}
+use Rattle.model.specs.Slices.{roundRobin, fullSlice}
 use Rattle.model.specs.Sound.{soundThread}
 
 -- every flag is 0 or 1, and every record is sound, where there are `count` partitions
@@ -17,3 +18,10 @@ OfAbsent e x r = e ≤ 1 → r ≡ cond (eqb e 1) 0 x
 
 abbrev pub OfExisting : ℕ → ℕ → ℕ → Type 0
 OfExisting e x r = e ≤ 1 → r ≡ cond (eqb e 1) x 255
+
+-- a thread of the policy o may have the slice l; and r is 0 where it may
+abbrev pub sliceFits : ℕ → ℕ → Bool
+sliceFits o l = cond (eqb o roundRobin) (leb 1 l && leb l fullSlice) (eqb l 0)
+
+abbrev pub WrongSlice : ℕ → ℕ → ℕ → Type 0
+WrongSlice o l r = o ≤ 1 → eqb r 0 ≡ sliceFits o l

@@ -79,17 +79,28 @@ fn sound(
     partitions: &[u8; 64],
     priorities: &[u8; 64],
     masks: &[u8; 64],
+    policies: &[u8; 64],
+    slices: &[u8; 64],
     queue: &[u8; 64],
     clock: Clock,
     history: &[u32],
 ) -> bool
     requires { ⌜ (withinLimits settings ≡ true) × (settings .count * W settings ≤ length (now history)) ⌝ }
     ensures { λ b. ⌜
-        b ≡ soundIn settings (now (used .entry)) clock (columns (now (exists .entry)) (now (ready .entry)) (now (partitions .entry)) (now (priorities .entry)) (now (masks .entry))) (now (queue .entry)) (now (history .entry))
+        b ≡ soundIn settings (now (used .entry)) clock (columns (now (exists .entry)) (now (ready .entry)) (now (partitions .entry)) (now (priorities .entry)) (now (masks .entry)) (now (policies .entry)) (now (slices .entry))) (now (queue .entry)) (now (history .entry))
         ⌝ }
 {
     let few = settings.count as u8;
-    if !records::sound_threads(exists, ready, partitions, priorities, masks, few) {
+    if !records::sound_threads(
+        exists,
+        ready,
+        partitions,
+        priorities,
+        masks,
+        policies,
+        slices,
+        few,
+    ) {
         return false;
     }
     if !queue::sound_queue(ready, queue, clock.queued) {
@@ -117,12 +128,14 @@ pub fn refused_state(
     partitions: &[u8; 64],
     priorities: &[u8; 64],
     masks: &[u8; 64],
+    policies: &[u8; 64],
+    slices: &[u8; 64],
     queue: &[u8; 64],
     clock: Clock,
     history: &[u32],
 ) -> Outcome
     ensures { λ b. ⌜
-        outcomeOf b ≡ refusedArrays settings (now (used .entry)) clock (columns (now (exists .entry)) (now (ready .entry)) (now (partitions .entry)) (now (priorities .entry)) (now (masks .entry))) (now (queue .entry)) (now (history .entry))
+        outcomeOf b ≡ refusedArrays settings (now (used .entry)) clock (columns (now (exists .entry)) (now (ready .entry)) (now (partitions .entry)) (now (priorities .entry)) (now (masks .entry)) (now (policies .entry)) (now (slices .entry))) (now (queue .entry)) (now (history .entry))
         ⌝ }
 {
     if !within_limits(settings) {
@@ -140,6 +153,8 @@ pub fn refused_state(
         partitions,
         priorities,
         masks,
+        policies,
+        slices,
         queue,
         clock,
         history,

@@ -1,9 +1,9 @@
-// The threads' records, which five lent arrays hold: whether each is sound.
+// The threads' records, which seven lent arrays hold: whether each is sound.
 use std::num::wrapping_sub_u8;
 ghost use mathlib.Core.Path.{_≡_};
 ghost use Prim.Native.Nat.{_≤_, min, max};
 ghost use Rattle.model.specs.Arrays.{columns};
-ghost use Rattle.soundness.specs.Records.{soundRecords, OfAbsent, OfExisting};
+ghost use Rattle.soundness.specs.Records.{soundRecords, OfAbsent, OfExisting, WrongSlice};
 
 // The smaller of two bytes.
 fn smaller(a: u8, b: u8) -> u8
@@ -33,20 +33,31 @@ fn of_existing(exists: u8, byte: u8) -> u8
     byte | wrapping_sub_u8(exists, 1)
 }
 
-// "existing threads with a valid partition and a mask other than 0", "records of absent threads .. all zero", and each flag 0 or 1. One pass
-// without branches, on bytes alone, so that it can be done for several threads at a time: what is tested of all threads is joined in four
-// bytes. A flag above 1 makes nothing of the others certain, but it shows in `flags`.
+// A byte that is 0 where a thread of this policy, 0 or 1, may have this slice: 1 to 4 for round robin, otherwise 0. The slice
+// less the policy is then at most 3, the lowest two bits, for round robin, and 0 otherwise.
+fn wrong_slice(policy: u8, slice: u8) -> u8
+    ensures { λ r. ⌜ WrongSlice policy slice r ⌝ }
+{
+    wrapping_sub_u8(slice, policy) & (wrapping_sub_u8(policy, 1) | 252)
+}
+
+// "existing threads with a valid partition and a mask other than 0", "a round-robin slice is 1 to 4, any other 0", "records of absent threads ..
+// all zero", and each flag and each policy 0 or 1. One pass without branches, on bytes alone, so that it can be done for several threads at a
+// time: what is tested of all threads is joined in four bytes. A flag or a policy above 1 makes nothing of the others certain, but it shows in
+// `flags`. The slice of a thread that does not exist needs no test of its own: where its policy is 0, so must the slice be.
 pub fn sound_threads(
     exists: &[u8; 64],
     ready: &[u8; 64],
     partitions: &[u8; 64],
     priorities: &[u8; 64],
     masks: &[u8; 64],
+    policies: &[u8; 64],
+    slices: &[u8; 64],
     count: u8,
 ) -> bool
     requires { ⌜ 1 ≤ count ⌝ }
     ensures { λ b. ⌜
-        b ≡ soundRecords count (columns (now (exists .entry)) (now (ready .entry)) (now (partitions .entry)) (now (priorities .entry)) (now (masks .entry)))
+        b ≡ soundRecords count (columns (now (exists .entry)) (now (ready .entry)) (now (partitions .entry)) (now (priorities .entry)) (now (masks .entry)) (now (policies .entry)) (now (slices .entry)))
         ⌝ }
 {
     let mut flags: u8 = 0;
@@ -61,8 +72,10 @@ pub fn sound_threads(
         let p = partitions[at];
         let n = priorities[at];
         let m = masks[at];
-        flags = flags | (e | r);
-        rest = rest | of_absent(e, r | p | n | m);
+        let o = policies[at];
+        let l = slices[at];
+        flags = flags | (e | r | o);
+        rest = rest | (of_absent(e, r | p | n | m | o) | wrong_slice(o, l));
         least = smaller(least, of_existing(e, m));
         most = larger(most, p);
         t += 1;

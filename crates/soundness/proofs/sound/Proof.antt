@@ -24,7 +24,7 @@ returns c =
     let start = c .before .before .before .before in
     let a = start .args in
     let threads = c .before .sound-threads in
-    bad-records (a .settings) (now (a .used)) (a .clock) (columns (now (a .exists)) (now (a .ready)) (now (a .partitions)) (now (a .priorities)) (now (a .masks))) (now (a .queue)) (now (a .history))
+    bad-records (a .settings) (now (a .used)) (a .clock) (columns (now (a .exists)) (now (a .ready)) (now (a .partitions)) (now (a .priorities)) (now (a .masks)) (now (a .policies)) (now (a .slices))) (now (a .queue)) (now (a .history))
     (start .pre .0) (threads .result) (threads .ensures) (not-true (threads .result) (c .if1 .taken))
 
 sound-queue-requires : tie.Need-sound-queue-requires
@@ -35,7 +35,7 @@ returns-2 c =
     let start = c .before .before .before .before .before .before in
     let a = start .args in
     let queue = c .before .sound-queue in
-    bad-queue (a .settings) (now (a .used)) (a .clock) (columns (now (a .exists)) (now (a .ready)) (now (a .partitions)) (now (a .priorities)) (now (a .masks))) (now (a .queue)) (now (a .history))
+    bad-queue (a .settings) (now (a .used)) (a .clock) (columns (now (a .exists)) (now (a .ready)) (now (a .partitions)) (now (a .priorities)) (now (a .masks)) (now (a .policies)) (now (a .slices))) (now (a .queue)) (now (a .history))
     (start .pre .0) (queue .result) (queue .ensures) (not-true (queue .result) (c .if2 .taken))
 
 twice-requires : tie.Need-twice-requires
@@ -64,7 +64,7 @@ returns-3 c =
     let start = threads .before .before .before in
     let a = start .args in
     let most = c .before .before .before .before .before .twice .ensures in
-    rw most (last-parts (a .settings) (now (a .used)) (a .clock) (columns (now (a .exists)) (now (a .ready)) (now (a .partitions)) (now (a .priorities)) (now (a .masks))) (now (a .queue)) (now (a .history))
+    rw most (last-parts (a .settings) (now (a .used)) (a .clock) (columns (now (a .exists)) (now (a .ready)) (now (a .partitions)) (now (a .priorities)) (now (a .masks)) (now (a .policies)) (now (a .slices))) (now (a .queue)) (now (a .history))
     (start .pre .0) (threads .sound-threads .result) (queue .sound-queue .result) _ _ _
     (threads .sound-threads .ensures) (not-false (threads .sound-threads .result) (queue .before .if1 .left))
     (queue .sound-queue .ensures) (not-false (queue .sound-queue .result) (c .before .before .before .before .before .before .before .before .before .before .if2 .left))

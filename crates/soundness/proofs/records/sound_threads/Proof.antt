@@ -13,11 +13,11 @@ use Rattle.soundness.proofs.records.sound_threads.Statement.{statement}
 use Rattle.soundness.proofs.records.sound_threads.Tie as tie
 
 abbrev Inv-loop : tie.InvT-loop
-Inv-loop exists ready partitions priorities masks count flags₀ rest₀ least₀ most₀ t₀ flags rest least most t =
-    (t ≤ 64) × (answer count flags rest least most ≡ all (fine count (columns exists ready partitions priorities masks)) (below t))
+Inv-loop exists ready partitions priorities masks policies slices count flags₀ rest₀ least₀ most₀ t₀ flags rest least most t =
+    (t ≤ 64) × (answer count flags rest least most ≡ all (fine count (columns exists ready partitions priorities masks policies slices)) (below t))
 
 abbrev μ-loop : tie.MeasureT-loop
-μ-loop exists ready partitions priorities masks count flags₀ rest₀ least₀ most₀ t₀ flags rest least most t =
+μ-loop exists ready partitions priorities masks policies slices count flags₀ rest₀ least₀ most₀ t₀ flags rest least most t =
     64 - t
 
 loop-holds : tie.Need-loop-holds Inv-loop μ-loop
@@ -42,8 +42,17 @@ element-copy-out-n c = search needs
 element-copy-out-m : tie.Need-element-copy-out-m Inv-loop μ-loop
 element-copy-out-m c = search needs
 
+element-copy-out-o : tie.Need-element-copy-out-o Inv-loop μ-loop
+element-copy-out-o c = search needs
+
+element-copy-out-l : tie.Need-element-copy-out-l Inv-loop μ-loop
+element-copy-out-l c = search needs
+
 of-absent-requires : tie.Need-of-absent-requires Inv-loop μ-loop
 of-absent-requires c κs = search needs
+
+wrong-slice-requires : tie.Need-wrong-slice-requires Inv-loop μ-loop
+wrong-slice-requires c κs = search needs
 
 of-existing-requires : tie.Need-of-existing-requires Inv-loop μ-loop
 of-existing-requires c κs = search needs
@@ -62,15 +71,17 @@ loop-less c = search needs
 
 loop-again : tie.Need-loop-again Inv-loop μ-loop
 loop-again c =
-    let absent = c .before .before .before in
-    let start = absent .before .before .before .before .before .before .before .before in
-    let turn = absent .before .before .before .before .before .before .before .loop in
+    let absent = c .before .before .before .before in
+    let start = absent .before .before .before .before .before .before .before .before .before .before in
+    let turn = absent .before .before .before .before .before .before .before .before .before .loop in
+    let slice = c .before .before .before .wrong-slice in
+    let existing = c .before .before .of-existing in
     let a = start .args in
-    let ts = columns (now (a .exists)) (now (a .ready)) (now (a .partitions)) (now (a .priorities)) (now (a .masks)) in (
+    let ts = columns (now (a .exists)) (now (a .ready)) (now (a .partitions)) (now (a .priorities)) (now (a .masks)) (now (a .policies)) (now (a .slices)) in (
       omega arith,
       rw (c .larger .ensures, c .before .smaller .ensures)
-          (fine-more (a .count) ts (turn .t) (turn .flags) (turn .rest) (turn .least) (turn .most) (absent .of-absent .result) (c .before .before .of-existing .result)
-          (start .pre) (absent .of-absent .ensures) (c .before .before .of-existing .ensures)
+          (fine-more (a .count) ts (turn .t) (turn .flags) (turn .rest) (turn .least) (turn .most) (absent .of-absent .result) (existing .result) (slice .result)
+          (start .pre) (absent .of-absent .ensures) (existing .ensures) (slice .ensures)
           ∙ rw (turn .inv .1) (all-next (fine (a .count) ts) (turn .t))),
     )
 
@@ -78,7 +89,7 @@ returns : tie.Need-returns Inv-loop μ-loop
 returns c =
     let a = c .before .before .args in
     let turn = c .before .loop in
-    let ts = columns (now (a .exists)) (now (a .ready)) (now (a .partitions)) (now (a .priorities)) (now (a .masks)) in
+    let ts = columns (now (a .exists)) (now (a .ready)) (now (a .partitions)) (now (a .priorities)) (now (a .masks)) (now (a .policies)) (now (a .slices)) in
     let e : turn .t ≡ 64 = omega arith in
     turn .inv .1 ∙ ap (λ (k : ℕ). all (fine (a .count) ts) (below k)) e ∙ fine-all (a .count) ts
 
@@ -95,7 +106,10 @@ sound-threads-spec =
     element-copy-out-p
     element-copy-out-n
     element-copy-out-m
+    element-copy-out-o
+    element-copy-out-l
     of-absent-requires
+    wrong-slice-requires
     of-existing-requires
     smaller-requires
     larger-requires
