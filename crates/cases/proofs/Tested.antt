@@ -6,12 +6,16 @@ use lib.IntN.{pos, negsuc}
 use Rattle.model.specs.Doors.{decision}
 use Rattle.cases.specs.Written.{line, refusal}
 use Rattle.cases.specs.Computed.{lines, remains}
-use Rattle.cases.specs.Runs.{computed, expected, runs}
-use Rattle.cases.specs.Refusals.{computedOf, papersOf, kinds, reserved, states, soundness, events, sheets, doors, buffer, zeros, lent, left, none}
+use Rattle.cases.specs.Runs.{computed, expected, runs, slices}
+use Rattle.cases.specs.Refusals.{computedOf, papersOf, kinds, reserved, states, soundness, events, sheets, doors, buffer, zeros, lent, lentAs, left, none}
 
 every-run : map computed runs ≡ map expected runs
 unfolding lines
 every-run = refl
+
+every-slice : map computed slices ≡ map expected slices
+unfolding lines
+every-slice = refl
 
 every-kind : computedOf kinds ≡ papersOf kinds
 unfolding lines
@@ -60,6 +64,7 @@ unfolding remains
 every-door = refl
 
 -- the decision door
-decisions : map decision (lent 1 5 (5 ∷ zeros 3) ∷ lent 1 5 (5 ∷ zeros 2) ∷ lent 2 5 (5 ∷ zeros 3) ∷ []) ≡ line 0 1 0 0 ∷ refusal 7 ∷ refusal 8 ∷ []
+decisions : map decision (lent 1 5 (5 ∷ zeros 3) ∷ lent 1 5 (5 ∷ zeros 2) ∷ lent 2 5 (5 ∷ zeros 3) ∷ lentAs 1 1 1 5 (5 ∷ zeros 3) ∷ lentAs 1 1 0 5 (5 ∷ zeros 3) ∷ [])
+    ≡ line 0 1 0 0 ∷ refusal 7 ∷ refusal 8 ∷ line 0 1 0 0 ∷ refusal 8 ∷ []
 unfolding remains
 decisions = refl

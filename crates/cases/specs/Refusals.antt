@@ -10,6 +10,7 @@ use Rattle.lists.specs.Lists.{all}
 use Rattle.sheet.specs.Sheet.{sheetOf, refusedWrite, lengthWritten, bufferWritten}
 use Rattle.sheet.specs.declared.Settings.{Settings}
 use Rattle.model.specs.State.{State, Thread, cycles}
+use Rattle.model.specs.Slices.{withSlice}
 use Rattle.model.specs.Event.{refusedState, refusedEvent, refused}
 use Rattle.model.specs.Step.{Saved, saved, withClock, withUsed, withThread, withQueue, withRunning, created, joins}
 use Rattle.model.specs.Run.{freshState}
@@ -17,7 +18,7 @@ use Rattle.model.specs.Answers.{Remainder}
 use Rattle.model.specs.Arrays.{columns}
 use Rattle.model.specs.Lent.{Lent}
 use Rattle.model.specs.Doors.{refusedStart}
-use Rattle.cases.specs.Written.{percents, kit, halves, event, tick, create, createOn, ready, block, setPriority, end, resume}
+use Rattle.cases.specs.Written.{percents, kit, halves, event, tick, create, createOn, createAs, ready, block, setPriority, end, resume}
 use Rattle.cases.specs.Computed.{sheetNumber, remains}
 
 infix 70 _is_
@@ -42,7 +43,7 @@ agree l = all (λ n. eqb (n .computed) (n .paper)) l
 
 -- thread 0 is ready, thread 1 exists and is not
 abbrev pub begun : State
-begun = joins (withThread (withThread (freshState (halves 2)) 0 (created 0 10 1)) 1 (created 1 20 1)) 0
+begun = joins (withThread (withThread (freshState (halves 2)) 0 (created 0 10 1 0)) 1 (created 1 20 1 0)) 0
 
 -- the number by which an event is refused there, or 0
 abbrev pub door : List ℕ → ℕ
@@ -56,16 +57,16 @@ on v b = refused (v .state) (v .history) b
 abbrev pub kinds : List Number
 kinds =
     door (tick 0) is 0 ∷ door (create 2 1 255 0) is 0 ∷ door (ready 1 0) is 0 ∷ door (block 0 0) is 0 ∷ door (setPriority 0 255 0) is 0
-    ∷ door (end 1 0) is 0 ∷ door (resume 0) is 0 ∷ []
+    ∷ door (end 1 0) is 0 ∷ door (resume 0) is 0 ∷ door (createAs 1 1 2 1 255 0) is 0 ∷ []
 
 -- the event with a 1 in each of these bytes, one at a time
 abbrev pub spoilt : List ℕ → List ℕ → List Number
 spoilt b places = map (λ i. door (set b i 1) is 9) places
 
--- "Bytes that a kind doesn't use are zero": all forty of them
+-- "Bytes that a kind doesn't use are zero": all 39 of them
 abbrev pub reserved : List Number
 reserved =
-    spoilt (tick 0) (1 ∷ 2 ∷ 3 ∷ 8 ∷ 9 ∷ 10 ∷ 11 ∷ []) ++ (spoilt (create 2 1 10 0) (9 ∷ 10 ∷ 11 ∷ [])
+    spoilt (tick 0) (1 ∷ 2 ∷ 3 ∷ 8 ∷ 9 ∷ 10 ∷ 11 ∷ []) ++ (spoilt (create 2 1 10 0) (10 ∷ 11 ∷ [])
     ++ (spoilt (ready 1 0) (2 ∷ 3 ∷ 8 ∷ 9 ∷ 10 ∷ 11 ∷ []) ++ (spoilt (block 0 0) (2 ∷ 3 ∷ 8 ∷ 9 ∷ 10 ∷ 11 ∷ [])
     ++ (spoilt (setPriority 0 5 0) (2 ∷ 8 ∷ 9 ∷ 10 ∷ 11 ∷ []) ++ (spoilt (end 1 0) (2 ∷ 3 ∷ 8 ∷ 9 ∷ 10 ∷ 11 ∷ [])
     ++ spoilt (resume 0) (1 ∷ 2 ∷ 3 ∷ 8 ∷ 9 ∷ 10 ∷ 11 ∷ []))))))
@@ -121,8 +122,12 @@ places q s =
     }
 
 -- a record of a thread that does not exist
-abbrev pub gone : Bool → ℕ → ℕ → ℕ → Thread
-gone on p n m = record { exists = false; ready = on; partition = p; priority = n; mask = m }
+abbrev pub gone : Bool → ℕ → ℕ → ℕ → ℕ → ℕ → Thread
+gone on p n m o l = record { exists = false; ready = on; partition = p; priority = n; mask = m; policy = o; slice = l }
+
+-- begun, where thread 2 exists too, with this policy and this slice
+abbrev pub counting : ℕ → ℕ → State
+counting o l = withThread begun 2 (withSlice (created 1 0 255 o) l)
 
 -- three shares, of which two count
 abbrev pub third : Settings
@@ -149,19 +154,25 @@ soundness =
     ∷ state (withClock (totals (5 ∷ 5 ∷ []) begun) 0 0 10) (5 ∷ 0 ∷ 5 ∷ 0 ∷ []) is 0
     ∷ state (withClock (totals (5 ∷ 5 ∷ []) begun) 0 0 9) (5 ∷ 0 ∷ 5 ∷ 0 ∷ []) is 8
     -- existing threads with a valid partition and a mask other than 0
-    ∷ state (withThread begun 2 (created 1 0 255)) still is 0 ∷ state (withThread begun 2 (created 2 0 255)) still is 8
-    ∷ state (withThread begun 2 (created 1 0 0)) still is 8
+    ∷ state (withThread begun 2 (created 1 0 255 0)) still is 0 ∷ state (withThread begun 2 (created 2 0 255 0)) still is 8
+    ∷ state (withThread begun 2 (created 1 0 0 0)) still is 8
+    -- "a round-robin slice is 1 to 4, any other 0"; no policy is above 1
+    ∷ state (counting 1 0) still is 8 ∷ state (counting 1 1) still is 0 ∷ state (counting 1 2) still is 0 ∷ state (counting 1 3) still is 0
+    ∷ state (counting 1 4) still is 0 ∷ state (counting 1 5) still is 8 ∷ state (counting 0 0) still is 0 ∷ state (counting 0 1) still is 8
+    ∷ state (counting 0 4) still is 8 ∷ state (counting 2 0) still is 8 ∷ state (counting 2 4) still is 8
     -- the line without repeats, and holding exactly the ready threads, all existing
     ∷ state (withQueue begun (0 ∷ 0 ∷ [])) still is 8 ∷ state (withQueue begun (0 ∷ 1 ∷ [])) still is 8 ∷ state (withQueue begun []) still is 8
-    ∷ state (withQueue begun (0 ∷ 64 ∷ [])) still is 8 ∷ state (withQueue (withThread begun 2 (gone true 0 0 0)) (0 ∷ 2 ∷ [])) still is 8
+    ∷ state (withQueue begun (0 ∷ 64 ∷ [])) still is 8 ∷ state (withQueue (withThread begun 2 (gone true 0 0 0 0 0)) (0 ∷ 2 ∷ [])) still is 8
     -- unused places of the line, records of absent threads, and shares and totals past the last partition all zero
     ∷ state (places (0 ∷ replicate 63 0) begun) still is 0 ∷ state (places (0 ∷ replicate 62 0 ++ (1 ∷ [])) begun) still is 8
-    ∷ state (withThread begun 63 (gone false 1 0 0)) still is 8 ∷ state (withThread begun 63 (gone false 0 1 0)) still is 8
-    ∷ state (withThread begun 63 (gone false 0 0 1)) still is 8 ∷ state (freshState third) still is 8
+    ∷ state (withThread begun 63 (gone false 1 0 0 0 0)) still is 8 ∷ state (withThread begun 63 (gone false 0 1 0 0 0)) still is 8
+    ∷ state (withThread begun 63 (gone false 0 0 1 0 0)) still is 8 ∷ state (withThread begun 63 (gone false 0 0 0 1 0)) still is 8
+    ∷ state (withThread begun 63 (gone false 0 0 0 0 1)) still is 8 ∷ state (withThread begun 63 (gone false 0 0 0 1 4)) still is 8
+    ∷ state (withThread begun 63 (gone false 0 0 0 0 0)) still is 0 ∷ state (freshState third) still is 8
     ∷ state (totals (0 ∷ 0 ∷ 1 ∷ []) begun) still is 8
     -- the running one idle, or in the line and allowed
     ∷ state (withRunning begun 0) still is 0 ∷ state (withRunning begun 1) still is 8 ∷ state (withRunning begun 254) still is 8
-    ∷ state (withRunning (joins (withThread begun 2 (created 1 0 2)) 2) 2) still is 8
+    ∷ state (withRunning (joins (withThread begun 2 (created 1 0 2 0)) 2) 2) still is 8
     ∷ []
 
 -- ---- events
@@ -170,18 +181,21 @@ abbrev pub events : List Number
 events =
     -- each alone
     door (cut (tick 0)) is 14 ∷ door (tick 0 ++ (0 ∷ [])) is 14 ∷ door [] is 14
-    ∷ door (event 0 0 0 0 0 0) is 9 ∷ door (event 8 0 0 0 0 0) is 9 ∷ door (event 255 0 0 0 0 0) is 9
+    ∷ door (event 0 0 0 0 0 0 0) is 9 ∷ door (event 8 0 0 0 0 0 0) is 9 ∷ door (event 255 0 0 0 0 0 0) is 9
     ∷ door (tick 2000) is 0 ∷ door (tick 2001) is 10 ∷ door (resume 2001) is 0 ∷ door (tick 4294967295) is 10
     ∷ door (create 63 0 10 0) is 0 ∷ door (create 64 0 10 0) is 11 ∷ door (create 0 0 10 0) is 11
     ∷ door (ready 2 0) is 11 ∷ door (setPriority 2 5 0) is 11 ∷ door (end 2 0) is 11
-    ∷ door (create 2 2 10 0) is 12 ∷ door (createOn 0 2 1 10 0) is 12 ∷ door (ready 0 0) is 13 ∷ door (block 1 0) is 13
+    ∷ door (create 2 2 10 0) is 12 ∷ door (createOn 0 2 1 10 0) is 12 ∷ door (createAs 2 1 2 1 10 0) is 12 ∷ door (createAs 255 1 2 1 10 0) is 12
+    ∷ door (ready 0 0) is 13 ∷ door (block 1 0) is 13
     -- 14 before 9 and 10; 9 before 10 and 11
-    ∷ door (cut (event 8 0 0 0 0 0)) is 14 ∷ door (cut (tick 2001)) is 14
-    ∷ door (event 8 0 0 0 2001 0) is 9 ∷ door (set (tick 2001) 9 1) is 9 ∷ door (set (ready 2 0) 9 1) is 9
+    ∷ door (cut (event 8 0 0 0 0 0 0)) is 14 ∷ door (cut (tick 2001)) is 14
+    ∷ door (event 8 0 0 0 2001 0 0) is 9 ∷ door (set (tick 2001) 9 1) is 9 ∷ door (set (ready 2 0) 9 1) is 9
+    ∷ door (set (createAs 2 1 2 1 10 0) 10 1) is 9
     -- 10 before 11, 12 and 13
-    ∷ door (ready 2 2001) is 10 ∷ door (create 2 2 10 2001) is 10 ∷ door (ready 0 2001) is 10
+    ∷ door (ready 2 2001) is 10 ∷ door (create 2 2 10 2001) is 10 ∷ door (createAs 2 1 2 1 10 2001) is 10 ∷ door (ready 0 2001) is 10
     -- 11 before 12 and 13; no event can have 12 and 13
-    ∷ door (create 64 2 10 0) is 11 ∷ door (createOn 0 0 0 10 0) is 11 ∷ door (block 2 0) is 11
+    ∷ door (create 64 2 10 0) is 11 ∷ door (createOn 0 0 0 10 0) is 11 ∷ door (createAs 2 1 64 1 10 0) is 11 ∷ door (createAs 2 1 1 1 10 0) is 11
+    ∷ door (block 2 0) is 11
     ∷ []
 
 -- ---- sheets
@@ -224,19 +238,23 @@ buffer = bufferWritten (halves 2) (replicate 74 7)
 abbrev pub zeros : ℕ → List ℕ
 zeros n = replicate n 0
 
--- what is lent for two halves of W 2, C 1000, one thread (0, in partition 0, on core 0), the flag of which is given, and no more; partition 0 was
--- charged x since the last tick
-abbrev pub lent : ℕ → ℕ → List ℕ → Lent
-lent flag x history =
+-- what is lent for two halves of W 2, C 1000, one thread (0, in partition 0, on core 0), the flag, policy and slice of which are given, and no
+-- more; partition 0 was charged x since the last tick
+abbrev pub lentAs : ℕ → ℕ → ℕ → ℕ → List ℕ → Lent
+lentAs flag o l x history =
     record {
       settings = 2 ∷ 1000 ∷ 0 ∷ 0 ∷ 2 ∷ [];
       shares = 50 ∷ 50 ∷ zeros 14;
       used = x ∷ zeros 15;
       clock = x ∷ 0 ∷ x ∷ 1 ∷ 0 ∷ [];
-      threads = columns (flag ∷ zeros 63) (1 ∷ zeros 63) (zeros 64) (10 ∷ zeros 63) (1 ∷ zeros 63);
+      threads = columns (flag ∷ zeros 63) (1 ∷ zeros 63) (zeros 64) (10 ∷ zeros 63) (1 ∷ zeros 63) (o ∷ zeros 63) (l ∷ zeros 63);
       queue = zeros 64;
       history = history;
     }
+
+-- first in, first out
+abbrev pub lent : ℕ → ℕ → List ℕ → Lent
+lent flag x history = lentAs flag 0 0 x history
 
 abbrev pub left : ℤ → Remainder
 left z = record { refusal = 0; remaining = z }
@@ -244,10 +262,13 @@ left z = record { refusal = 0; remaining = z }
 abbrev pub none : ℕ → Remainder
 none n = record { refusal = n; remaining = pos 0 }
 
--- 7 and 8 before 12: a history too short, a total that is not its row's sum, a flag that is neither 0 nor 1
+-- 7 and 8 before 12: a history too short, a total that is not its row's sum, a flag or a policy that is neither 0 nor 1, a slice that is not of the
+-- policy
 abbrev pub doors : List Number
 doors =
     remains (lent 1 5 (5 ∷ zeros 3)) 1 .refusal is 0 ∷ remains (lent 1 5 (5 ∷ zeros 3)) 2 .refusal is 12
     ∷ remains (lent 1 5 (5 ∷ zeros 2)) 2 .refusal is 7 ∷ remains (lent 1 5 (zeros 4)) 2 .refusal is 8
-    ∷ remains (lent 2 5 (5 ∷ zeros 3)) 2 .refusal is 8
+    ∷ remains (lent 2 5 (5 ∷ zeros 3)) 2 .refusal is 8 ∷ remains (lentAs 1 2 0 5 (5 ∷ zeros 3)) 2 .refusal is 8
+    ∷ remains (lentAs 1 1 4 5 (5 ∷ zeros 3)) 1 .refusal is 0 ∷ remains (lentAs 1 4 1 5 (5 ∷ zeros 3)) 2 .refusal is 8
+    ∷ remains (lentAs 1 1 5 5 (5 ∷ zeros 3)) 2 .refusal is 8
     ∷ []

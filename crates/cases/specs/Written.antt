@@ -18,36 +18,39 @@ kit w c policy core shares =
 abbrev pub halves : ℕ → Settings
 halves w = kit w 1000 0 0 (50 ∷ 50 ∷ [])
 
--- ---- events: kind, thread, partition, priority, stamp, mask
+-- ---- events: kind, thread, partition, priority, stamp, mask, policy
 
-abbrev pub event : ℕ → ℕ → ℕ → ℕ → ℕ → ℕ → List ℕ
-event k t p n stamp m =
-    k ∷ t ∷ p ∷ n ∷ (stamp % 256) ∷ (stamp / 256 % 256) ∷ (stamp / 65536 % 256) ∷ (stamp / 16777216) ∷ m ∷ 0 ∷ 0 ∷ 0 ∷ []
+abbrev pub event : ℕ → ℕ → ℕ → ℕ → ℕ → ℕ → ℕ → List ℕ
+event k t p n stamp m o =
+    k ∷ t ∷ p ∷ n ∷ (stamp % 256) ∷ (stamp / 256 % 256) ∷ (stamp / 65536 % 256) ∷ (stamp / 16777216) ∷ m ∷ o ∷ 0 ∷ 0 ∷ []
 
 abbrev pub tick : ℕ → List ℕ
-tick stamp = event 1 0 0 0 stamp 0
+tick stamp = event 1 0 0 0 stamp 0 0
 
--- with this run mask; and on core 0 alone
+-- with this policy and this run mask; first in, first out, with this run mask; and so on core 0 alone
+abbrev pub createAs : ℕ → ℕ → ℕ → ℕ → ℕ → ℕ → List ℕ
+createAs policy mask t p n stamp = event 2 t p n stamp mask policy
+
 abbrev pub createOn : ℕ → ℕ → ℕ → ℕ → ℕ → List ℕ
-createOn mask t p n stamp = event 2 t p n stamp mask
+createOn mask t p n stamp = createAs 0 mask t p n stamp
 
 abbrev pub create : ℕ → ℕ → ℕ → ℕ → List ℕ
 create t p n stamp = createOn 1 t p n stamp
 
 abbrev pub ready : ℕ → ℕ → List ℕ
-ready t stamp = event 3 t 0 0 stamp 0
+ready t stamp = event 3 t 0 0 stamp 0 0
 
 abbrev pub block : ℕ → ℕ → List ℕ
-block t stamp = event 4 t 0 0 stamp 0
+block t stamp = event 4 t 0 0 stamp 0 0
 
 abbrev pub setPriority : ℕ → ℕ → ℕ → List ℕ
-setPriority t n stamp = event 5 t 0 n stamp 0
+setPriority t n stamp = event 5 t 0 n stamp 0 0
 
 abbrev pub end : ℕ → ℕ → List ℕ
-end t stamp = event 6 t 0 0 stamp 0
+end t stamp = event 6 t 0 0 stamp 0 0
 
 abbrev pub resume : ℕ → List ℕ
-resume stamp = event 7 0 0 0 stamp 0
+resume stamp = event 7 0 0 0 stamp 0 0
 
 -- ---- lines
 
