@@ -19,7 +19,7 @@ use Rattle.model.specs.Event
 use Rattle.model.specs.Step
 use Rattle.model.specs.Step.{Saved}
 use Rattle.model.specs.Run.{Entry, run, fresh, after}
-use Rattle.guarantee.specs.Turns.{Equals, spares, leftAlone, ticksBefore}
+use Rattle.guarantee.specs.Turns.{Equals, keepsReady, staysReady, ticksBefore, isChosen, isRunning}
 
 abbrev settings : Settings
 settings = record {
@@ -41,7 +41,9 @@ tick stamp = event Event.tick 0 0 stamp 0 0
 
 -- both are made ready
 abbrev made : Saved
-made = after (fresh settings []) (event Event.create 0 10 0 1 1 ∷ event Event.create 1 10 0 1 1 ∷ event Event.ready 0 0 0 0 0 ∷ event Event.ready 1 0 0 0 0 ∷ [])
+made =
+    after (fresh settings [])
+    (event Event.create 0 10 0 1 1 ∷ event Event.create 1 10 0 1 1 ∷ event Event.ready 0 0 0 0 0 ∷ event Event.ready 1 0 0 0 0 ∷ [])
 
 abbrev log : List Entry
 log = run made (tick 1000 ∷ tick 2000 ∷ tick 3000 ∷ tick 4000 ∷ tick 5000 ∷ [])
@@ -49,11 +51,12 @@ log = run made (tick 1000 ∷ tick 2000 ∷ tick 3000 ∷ tick 4000 ∷ tick 500
 record Met : Type 0 where
   taken : Event.refusedState (made .state) (made .history) ≡ 0
   equals : Equals (made .state) 0 1
-  left : (leftAlone 0 log ≡ true) × (leftAlone 1 log ≡ true)
-  in-fact : ticksBefore 0 1 (made .state .running) log ≡ 4
+  stay : (staysReady 10 0 log ≡ true) × (staysReady 10 1 log ≡ true)
+  until-chosen : ticksBefore (isChosen 1) 0 (made .state) log ≡ 4
+  until-running : ticksBefore (isRunning 1) 0 (made .state) log ≡ 4
 
 met : Met
-unfolding run after spares leftAlone ticksBefore below any all keep first maximum distinct budgetOf elapsedOf remainingOf hasBudgetOf smallerFraction budget windowFits tickFits policyAndCoreFit countFits sharesFit withinLimits allows Policy.candidates Policy.competing Policy.topPriority Policy.remaining Policy.hasBudget Policy.betterFraction Policy.mode Policy.byBudget Policy.byPriority Policy.ratioPolicy Policy.before Policy.best Policy.better Policy.winner Policy.chosen Policy.decideFor Policy.decide Sound.slotSum Sound.soundHistory Sound.soundSlice Sound.soundThread Sound.soundQueue Sound.soundRest Sound.soundRunning Sound.sound Event.stampOf Event.wellFormed Event.known Event.namesPlace Event.namesPriority Event.tooLong Event.namesThread Event.wrongThread Event.wrongPlace Event.wrongReadiness Event.refusedState Event.refusedEvent Event.refused Step.billed Step.addUsed Step.addHistory Step.charge Step.clearHistory Step.lowerUsed Step.moveSlot Step.leaves Slices.sliceFor Slices.spent Slices.sliceAfter Step.turned Step.sliced Step.act Step.settle Step.restart Step.apply Step.answer
+unfolding run after keepsReady staysReady ticksBefore below any all keep first maximum distinct budgetOf elapsedOf remainingOf hasBudgetOf smallerFraction budget windowFits tickFits policyAndCoreFit countFits sharesFit withinLimits allows Policy.candidates Policy.competing Policy.topPriority Policy.remaining Policy.hasBudget Policy.betterFraction Policy.mode Policy.byBudget Policy.byPriority Policy.ratioPolicy Policy.before Policy.best Policy.better Policy.winner Policy.chosen Policy.decideFor Policy.decide Sound.slotSum Sound.soundHistory Sound.soundSlice Sound.soundThread Sound.soundQueue Sound.soundRest Sound.soundRunning Sound.sound Event.stampOf Event.wellFormed Event.known Event.namesPlace Event.namesPriority Event.tooLong Event.namesThread Event.wrongThread Event.wrongPlace Event.wrongReadiness Event.refusedState Event.refusedEvent Event.refused Step.billed Step.addUsed Step.addHistory Step.charge Step.clearHistory Step.lowerUsed Step.moveSlot Step.leaves Slices.sliceFor Slices.spent Slices.sliceAfter Step.turned Step.sliced Step.act Step.settle Step.restart Step.apply Step.answer
 met = record {
   taken = refl;
   equals = record {
@@ -63,6 +66,7 @@ met = record {
     partition = refl;
     priority = refl;
   };
-  left = (refl, refl);
-  in-fact = refl;
+  stay = (refl, refl);
+  until-chosen = refl;
+  until-running = refl;
 }

@@ -1,5 +1,6 @@
 -- DEMAND 2, the account: what the sheet's settings and the accepted events alone say of the threads, their slices, the ready queue, the
--- charges and the decision. The accepted events stand newest first; no state, history or answer goes into a definition, only into the statements at the end.
+-- charges and the decision. The accepted events stand newest first; no state, history or answer goes into a definition, only into the
+-- statements at the end.
 use Prim.Native.Nat.{ℕ, suc, _+_, _-_, _*_, _%_, _<_}
 use mathlib.Core.Path.{_≡_}
 use mathlib.Core.Bool.{false, not, cond, _&&_, _||_}
