@@ -55,7 +55,7 @@ none (suc n) zero = refl
 none (suc n) (suc i) = none n i
 
 abbrev empty : Columns
-empty = columns zeros zeros zeros zeros zeros
+empty = columns zeros zeros zeros zeros zeros zeros zeros
 
 none-plain : plain zeros ≡ true
 unfolding plain

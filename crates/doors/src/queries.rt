@@ -129,7 +129,8 @@ pub fn remaining(
             let window = s.window;
             let tick = s.tick;
             let budget = units::budget(share, window, tick);
-            Balance::Remaining(units::remaining(budget, Cycles(used[p])))
+            let charged = used[p];
+            Balance::Remaining(units::remaining(budget, Cycles(charged)))
         }
     }
 }

@@ -71,11 +71,11 @@ budget-requires c κs =
     let l = within d in
     (share-most (read t .settings-in .result) l (start t .args .partition) (d .if1 .left), l .window-high, l .tick-high, l .whole)
 
-mul-t27 : tie.Need-mul-t27
-mul-t27 c = search needs
+mul-charged : tie.Need-mul-charged
+mul-charged c = search needs
 
-element-copy-out-t24 : tie.Need-element-copy-out-t24
-element-copy-out-t24 c = inside (c .before .before .before .before)
+element-copy-out-charged : tie.Need-element-copy-out-charged
+element-copy-out-charged c = inside (c .before .before .before .before)
 
 remaining-requires : tie.Need-remaining-requires
 remaining-requires c κs = search needs
@@ -111,8 +111,8 @@ remaining-spec =
     mul-share
     element-copy-out-share
     budget-requires
-    mul-t27
-    element-copy-out-t24
+    mul-charged
+    element-copy-out-charged
     remaining-requires
     returns-2
     returns-3)
