@@ -42,7 +42,7 @@ number f ts = map f ts
 abbrev columnsOf : List Thread → Columns
 columnsOf l =
     columns (number (λ t. flag (t .exists)) l) (number (λ t. flag (t .ready)) l) (number (λ t. t .partition) l) (number (λ t. t .priority) l)
-    (number (λ t. t .mask) l)
+    (number (λ t. t .mask) l) (number (λ t. t .policy) l) (number (λ t. t .slice) l)
 
 -- settings as in x
 abbrev stored : Lent → Saved → Lent
@@ -68,6 +68,8 @@ module _ (l : List Thread) (h : length l ≡ 64) where
     partition = number-at (λ t. t .partition) refl l i j;
     priority = number-at (λ t. t .priority) refl l i j;
     mask = number-at (λ t. t .mask) refl l i j;
+    policy = number-at (λ t. t .policy) refl l i j;
+    slice = number-at (λ t. t .slice) refl l i j;
   }
 
   threads-back : threadsIn (columnsOf l) ≡ l
