@@ -1,5 +1,6 @@
 pub mod Calls
 pub mod Decisions
+pub mod Turns
 pub mod Runs
 pub mod Reading
 pub mod Uses

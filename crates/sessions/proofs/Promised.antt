@@ -11,9 +11,11 @@ use Rattle.guarantee.proofs.Account as Account
 use Rattle.guarantee.proofs.Refused as Refused
 use Rattle.guarantee.proofs.Known as Known
 use Rattle.guarantee.proofs.Demand3 as Demand3
+use Rattle.guarantee.proofs.Turns as Turns
 use Rattle.sessions.specs.Promised.{Promised}
 use Rattle.sessions.proofs.Calls as Calls
 use Rattle.sessions.proofs.Decisions as Decisions
+use Rattle.sessions.proofs.Turns as DoorTurns
 use Rattle.sessions.proofs.Runs as Runs
 use Rattle.sessions.proofs.Uses as Uses
 use Rattle.sessions.proofs.FromC as FromC
@@ -49,6 +51,8 @@ promised = record {
   refused = Refused.refused-count-for-nothing;
   ready = Known.ready-is-queued;
   demand3 = Demand3.demand3;
+  slice-ends = Turns.slice-ends;
+  takes-turns = Turns.takes-turns;
   calls = Calls.calls-are-run;
   stays = Calls.refused-stays;
   decides = Decisions.door-decides;
@@ -57,6 +61,8 @@ promised = record {
   door-answers = Calls.door-answers;
   door-totals = Calls.door-totals;
   door-totals-from = Calls.door-totals-from;
+  door-slice-ends = DoorTurns.door-slice-ends;
+  door-takes-turns = DoorTurns.door-takes-turns;
   run = Runs.run-is-calls;
   uses = Uses.uses-are-calls;
   uses-run = Uses.uses-are-run;

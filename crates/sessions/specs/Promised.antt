@@ -7,8 +7,10 @@ use Rattle.invariants.specs.Once as Once
 use Rattle.guarantee.specs.Account as Account
 use Rattle.guarantee.specs.Demand3 as Demand3
 use Rattle.guarantee.specs.Ledger as Ledger
+use Rattle.guarantee.specs.Turns as Turns
 use Rattle.sessions.specs.Calls as Calls
 use Rattle.sessions.specs.Decisions as Decisions
+use Rattle.sessions.specs.Turns as DoorTurns
 use Rattle.sessions.specs.Uses as Uses
 use Rattle.sessions.specs.FromC as FromC
 
@@ -45,6 +47,8 @@ pub record Promised : Type 0 where
   pub refused : Ledger.RefusedCountForNothing
   pub ready : Ledger.ReadyIsQueued
   pub demand3 : Demand3.Demand3
+  pub slice-ends : Turns.SliceEnds
+  pub takes-turns : Turns.TakesTurns
   -- calls of the doors
   pub calls : Calls.CallsAreRun
   pub stays : Calls.RefusedStays
@@ -54,6 +58,8 @@ pub record Promised : Type 0 where
   pub door-answers : Calls.DoorAnswers
   pub door-totals : Calls.DoorTotals
   pub door-totals-from : Calls.DoorTotalsFrom
+  pub door-slice-ends : DoorTurns.DoorSliceEnds
+  pub door-takes-turns : DoorTurns.DoorTakesTurns
   pub run : Calls.RunIsCalls
   pub uses : Uses.UsesAreCalls
   pub uses-run : Uses.UsesAreRun
