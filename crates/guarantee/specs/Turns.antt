@@ -1,6 +1,6 @@
 -- What request (i) of document 02 promises of equal threads ("Two screen threads share priority 10 and the first never lets go"): they take
--- turns. Both promises are of every list of events, accepted and refused, from any state that the event door takes; the lengths that they
--- name are those of every value of the struct.
+-- turns. Both promises are of every list of events, accepted and refused, from any state that the event door takes, and what a list of events
+-- leaves is such a state (`RunKeeps`). The lengths that they name are those of every state that arrays of these types stand for.
 use Prim.Native.Nat.{ℕ, _+_, _≤_}
 use mathlib.Core.Logic.{_≢_}
 use mathlib.Core.Path.{_≡_}
