@@ -296,8 +296,10 @@ module _ (c : Settings) (t u n : ℕ) where
         go (no off) = any-count es v m (λ on. absurd (off on))
 
 pub takes-turns : TakesTurns
-takes-turns v len fine events t u m p x y =
-    (record { chosen = omega (arith, few, by-chosen); runs = omega (arith, few, by-running) }, record { chosen = by-chosen; runs = by-running })
+takes-turns v len fine events t u m p x y = (
+  record { until-chosen = omega (arith, few, by-chosen); until-running = omega (arith, few, by-running) },
+  record { until-chosen = by-chosen; until-running = by-running },
+)
   where
     c : Settings
     c = v .state .settings
