@@ -11,7 +11,7 @@ use Rattle.units.specs.Units.{budgetOf, elapsedOf, remainingOf, hasBudgetOf, sm
 use Rattle.sheet.specs.Limits.{windowFits, tickFits, policyAndCoreFit, countFits}
 use Rattle.sheet.specs.Settings.{budget, sharesFit, withinLimits}
 use Rattle.sheet.specs.declared.Settings.{Settings}
-use Rattle.model.specs.State.{allows}
+use Rattle.model.specs.State.{thread, allows}
 use Rattle.model.specs.Slices
 use Rattle.model.specs.Policy
 use Rattle.model.specs.Sound
@@ -48,12 +48,20 @@ made =
 abbrev log : List Entry
 log = run made (tick 1000 ∷ tick 2000 ∷ tick 3000 ∷ tick 4000 ∷ tick 5000 ∷ [])
 
+-- before the fourth tick
+abbrev last : Saved
+last = after made (tick 1000 ∷ tick 2000 ∷ tick 3000 ∷ [])
+
 record Met : Type 0 where
   taken : Event.refusedState (made .state) (made .history) ≡ 0
   equals : Equals (made .state) 0 1
+  policy : thread (made .state) 0 .policy ≡ Slices.roundRobin
   stay : (staysReady 10 0 log ≡ true) × (staysReady 10 1 log ≡ true)
   until-chosen : ticksBefore (isChosen 1) 0 (made .state) log ≡ 4
   until-running : ticksBefore (isRunning 1) 0 (made .state) log ≡ 4
+  ran : last .state .running ≡ 0
+  over : Slices.ends (thread (last .state) 0) ≡ true
+  fourth : Step.answer last (tick 4000) .refusal ≡ 0
 
 met : Met
 unfolding run after keepsReady staysReady ticksBefore below any all keep first maximum distinct budgetOf elapsedOf remainingOf hasBudgetOf smallerFraction budget windowFits tickFits policyAndCoreFit countFits sharesFit withinLimits allows Policy.candidates Policy.competing Policy.topPriority Policy.remaining Policy.hasBudget Policy.betterFraction Policy.mode Policy.byBudget Policy.byPriority Policy.ratioPolicy Policy.before Policy.best Policy.better Policy.winner Policy.chosen Policy.decideFor Policy.decide Sound.slotSum Sound.soundHistory Sound.soundSlice Sound.soundThread Sound.soundQueue Sound.soundRest Sound.soundRunning Sound.sound Event.stampOf Event.wellFormed Event.known Event.namesPlace Event.namesPriority Event.tooLong Event.namesThread Event.wrongThread Event.wrongPlace Event.wrongReadiness Event.refusedState Event.refusedEvent Event.refused Step.billed Step.addUsed Step.addHistory Step.charge Step.clearHistory Step.lowerUsed Step.moveSlot Step.leaves Slices.sliceFor Slices.spent Slices.sliceAfter Step.turned Step.sliced Step.act Step.settle Step.restart Step.apply Step.answer
@@ -66,7 +74,11 @@ met = record {
     partition = refl;
     priority = refl;
   };
+  policy = refl;
   stay = (refl, refl);
   until-chosen = refl;
   until-running = refl;
+  ran = refl;
+  over = refl;
+  fourth = refl;
 }

@@ -83,6 +83,9 @@ module _ (c : Settings) (t u n : ℕ) where
     pub at : thread (v .state) t .priority ≡ n
     pub policy : thread (v .state) t .policy ≡ roundRobin
 
+  fits : (v : Saved) (es : List Entry) → Peers v es → SliceFits (thread (v .state) t .policy) (thread (v .state) t .slice)
+  fits v es m = let k = m .good .fit .sound .settled in k .proper t (k .queue .inside t (m .equals .one .queued)) .slice
+
   -- what the first of a list, accepted, leaves, and the rest
   keeps-first : (x : ℕ) (e : Entry) (es : List Entry) → staysReady n x (e ∷ es) ≡ true → demand.accepted e ≡ true → keepsReady n x (e .event) ≡ true
   unfolding staysReady all
@@ -112,9 +115,6 @@ module _ (c : Settings) (t u n : ℕ) where
       at = m .at;
       policy = m .policy;
     }
-
-    low : 1 ≤ r .slice
-    low = let k = m .good .fit .sound .settled in k .proper t (k .queue .inside t (m .equals .one .queued)) .slice .low (m .policy)
 
     -- where it is accepted
     module _ (ok : accepts v b ≡ true) where
@@ -173,18 +173,18 @@ module _ (c : Settings) (t u n : ℕ) where
     Holds v = v .state .running ≡ u → test (v .state) ≡ true
 
     -- the first of a list on the count: a refused one counts for nothing
-    counted-on : (v : Saved) (e : Entry) (es : List Entry) → Log v (e ∷ es) → (n : ℕ) → (demand.accepted e ≡ false → count v es ≤ n)
-        → (accepts v (e .event) ≡ true → test (v .state) ≡ false → one v (e .event) + count (settle (apply v (e .event))) es ≤ n)
-        → count v (e ∷ es) ≤ n
+    counted-on : (v : Saved) (e : Entry) (es : List Entry) → Log v (e ∷ es) → (most : ℕ) → (demand.accepted e ≡ false → count v es ≤ most)
+        → (accepts v (e .event) ≡ true → test (v .state) ≡ false → one v (e .event) + count (settle (apply v (e .event))) es ≤ most)
+        → count v (e ∷ es) ≤ most
     unfolding ticksBefore
-    counted-on v e es l n refused accepted = go (test (v .state)) refl (demand.accepted e) refl
+    counted-on v e es l most refused accepted = go (test (v .state)) refl (demand.accepted e) refl
       where
         go : (z : Bool) → test (v .state) ≡ z → (y : Bool) → demand.accepted e ≡ y
-            → cond z 0 (cond ((y && eqb (kindOf (e .event)) Event.tick) && eqb (v .state .running) t) 1 0 + count (e .answer .after) es) ≤ n
+            → cond z 0 (cond ((y && eqb (kindOf (e .event)) Event.tick) && eqb (v .state .running) t) 1 0 + count (e .answer .after) es) ≤ most
         go true q y p = omega arith
-        go false q false p = subst (λ (x : Saved). 0 + count x es ≤ n) (sym (when-refused v e (l .0) p)) (omega (arith, refused p))
+        go false q false p = subst (λ (x : Saved). 0 + count x es ≤ most) (sym (when-refused v e (l .0) p)) (omega (arith, refused p))
         go false q true p =
-            subst (λ (x : Answer). one v (e .event) + count (x .after) es ≤ n) (sym (when-accepted v e (l .0) p))
+            subst (λ (x : Answer). one v (e .event) + count (x .after) es ≤ most) (sym (when-accepted v e (l .0) p))
             (accepted (sym (accepted-is v e (l .0)) ∙ p) q)
 
     -- behind u, t runs no more; it may be running still
@@ -237,7 +237,7 @@ module _ (c : Settings) (t u n : ℕ) where
                 let after : ahead u t (queueOf (next .state)) ≡ true = goes-behind v e es m ok (eqb-true _ _ i) (eqb-true _ _ j) k in
                 let few : count next es ≤ 0 = rw (not-running v e es m ok after) at
                 (behind-count es next (peers-next v e es m ok) (holds v (m .good) (e .event) ok (peers-next v e es m ok .equals)) after) in
-                omega (arith, low v e es m)
+                omega (arith, fits v (e ∷ es) m .low (m .policy))
             go true i true j false k =
                 let on : v .state .running ≡ t = eqb-true _ _ j in
                 let less : thread (next .state) t .slice ≡ l - 1 = slice-next v e es m ok ∙ rw (i, j) (lowered o l (m .policy) k) in
@@ -250,8 +250,8 @@ module _ (c : Settings) (t u n : ℕ) where
                 omega (arith, kept, more (stays-ahead v e es m ok (λ x f. absurd (eqb-false _ _ i x)) h))
 
     -- so it is in either order
-    any-count : (es : List Entry) (v : Saved) → Peers v es → Holds v → 1 ≤ thread (v .state) t .slice → count v es ≤ thread (v .state) t .slice
-    any-count es v m f low = go (ahead t u (queueOf (v .state))) refl
+    any-count : (es : List Entry) (v : Saved) → Peers v es → Holds v → count v es ≤ thread (v .state) t .slice
+    any-count es v m f = go (ahead t u (queueOf (v .state))) refl
       where
         once : (z : Bool) → cond z 1 0 ≤ 1
         once true = omega arith
@@ -262,7 +262,7 @@ module _ (c : Settings) (t u n : ℕ) where
         go false h =
             omega (
               arith,
-              low,
+              fits v es m .low (m .policy),
               once (eqb (v .state .running) t),
               behind-count es v m f (either t u (queueOf (v .state)) (m .equals .one .queued) h),
             )
@@ -282,22 +282,24 @@ module _ (c : Settings) (t u n : ℕ) where
             let kept : thread (v₁ v e es m .state) t .slice ≡ thread (v .state) t .slice =
             slice-next v e es m ok ∙ rw idle-t (go (eqb (kindOf (e .event)) Event.tick)) in
             rw (idle-t, and-false)
-            (omega (arith, kept, low v e es m, any-count es (v₁ v e es m) p (holds v (m .good) (e .event) ok (p .equals)) (rw kept (low v e es m))))
+            (omega (arith, kept, any-count es (v₁ v e es m) p (holds v (m .good) (e .event) ok (p .equals))))
           where
             go : (z : Bool) → cond z (thread (v .state) t) (thread (v .state) t) .slice ≡ thread (v .state) t .slice
             go true = refl
             go false = refl
 
-    found : (es : List Entry) (v : Saved) → Peers v es → 1 ≤ thread (v .state) t .slice → count v es ≤ thread (v .state) t .slice
-    found es v m low = go (ℕ-discrete (v .state .running) u)
+    found : (es : List Entry) (v : Saved) → Peers v es → count v es ≤ thread (v .state) t .slice
+    found es v m = go (ℕ-discrete (v .state .running) u)
       where
         go : Dec (v .state .running ≡ u) → count v es ≤ thread (v .state) t .slice
         go (yes on) = given-count es v m on
-        go (no off) = any-count es v m (λ on. absurd (off on)) low
+        go (no off) = any-count es v m (λ on. absurd (off on))
 
 pub takes-turns : TakesTurns
-takes-turns v len fine events t u m p x y =
-    (record { chosen = omega (arith, few, by-chosen); runs = omega (arith, few, by-running) }, record { chosen = by-chosen; runs = by-running })
+takes-turns v len fine events t u m p x y = (
+  record { until-chosen = omega (arith, few, by-chosen); until-running = omega (arith, few, by-running) },
+  record { until-chosen = by-chosen; until-running = by-running },
+)
   where
     c : Settings
     c = v .state .settings
@@ -305,20 +307,17 @@ takes-turns v len fine events t u m p x y =
     g : Good c v
     g = record { fit = fit-of (v .state) (v .history) fine; lengths = len; settings = refl }
 
-    fits : SliceFits (thread (v .state) t .policy) (thread (v .state) t .slice)
-    fits = g .fit .sound .settled .proper t (g .fit .sound .settled .queue .inside t (m .one .queued)) .slice
-
-    few : thread (v .state) t .slice ≤ fullSlice
-    few = fits .high p
-
     n : ℕ
     n = thread (v .state) t .priority
 
     peers : Peers c t u n v (run v events)
     peers = record { good = g; log = run-log v events; stay = (x, y); equals = m; at = refl; policy = p }
 
+    few : thread (v .state) t .slice ≤ fullSlice
+    few = fits c t u n v (run v events) peers .high p
+
     by-chosen : ticksBefore (isChosen u) t (v .state) (run v events) ≤ thread (v .state) t .slice
-    by-chosen = found c t u n (isChosen u) (λ v′ g′ b ok e on. runs-chosen c v′ g′ b ok n u (e .other .queued) on) (run v events) v peers (fits .low p)
+    by-chosen = found c t u n (isChosen u) (λ v′ g′ b ok e on. runs-chosen c v′ g′ b ok n u (e .other .queued) on) (run v events) v peers
 
     by-running : ticksBefore (isRunning u) t (v .state) (run v events) ≤ thread (v .state) t .slice
-    by-running = found c t u n (isRunning u) (λ v′ g′ b ok e on. eq-eqb _ _ on) (run v events) v peers (fits .low p)
+    by-running = found c t u n (isRunning u) (λ v′ g′ b ok e on. eq-eqb _ _ on) (run v events) v peers

@@ -1,6 +1,6 @@
 -- What request (i) of document 02 promises of equal threads ("Two screen threads share priority 10 and the first never lets go"): they take
--- turns. Both promises are of every list of events, accepted and refused, from any state that the event door takes; the lengths that they
--- name are those of every value of the struct.
+-- turns. Both promises are of every list of events, accepted and refused, from any state that the event door takes, and what a list of events
+-- leaves is such a state (`RunKeeps`). The lengths that they name are those of every state that arrays of these types stand for.
 use Prim.Native.Nat.{ℕ, _+_, _≤_}
 use mathlib.Core.Logic.{_≢_}
 use mathlib.Core.Path.{_≡_}
@@ -66,8 +66,8 @@ isRunning u s = eqb (s .running) u
 -- at most n accepted ticks of es find t running before u is the thread that their partition would run; and no more before u runs, which may
 -- be later: another partition may have the processor
 pub record FoundAtMost (n : ℕ) (s : State) (t u : ℕ) (es : List Entry) : Type 0 where
-  pub chosen : ticksBefore (isChosen u) t s es ≤ n
-  pub runs : ticksBefore (isRunning u) t s es ≤ n
+  pub until-chosen : ticksBefore (isChosen u) t s es ≤ n
+  pub until-running : ticksBefore (isRunning u) t s es ≤ n
 
 -- TAKING TURNS, "A round-robin thread gets a slice of 4 ticks": while two equals stay ready at one priority, a round-robin one of them is found
 -- running by at most 4 ticks before the other one's turn; by no more than were left of its slice
