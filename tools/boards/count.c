@@ -2,8 +2,8 @@
  *
  * The emulator gives each instruction a nanosecond (-icount shift=0), and SysTick counts 25 million times in a second: 40 instructions are one count.
  * Means are of a stream that goes round through a block, a ready, a new priority and a tick, a quarter of a tick apart; every event of it is
- * accepted. Every other thread is round robin. The largest numbers are of it and of what else can happen: creating, making ready and ending one thread
- * after the other, ticks that end a slice, a refusal; under both policies of a sheet. A resume, which clears all rows, is counted apart.
+ * accepted. Every other thread is round robin. The largest numbers are of it and of what else can happen: creating, making ready and ending one
+ * thread after the other, ticks that end a slice, a refusal; under both policies of a sheet. A resume, which clears all rows, is counted apart.
  *
  * Prints a line for each size: partitions, threads, window; instructions of event, mean and most, of an event of a run, mean and most, of the test of
  * a state, mean and most, and of a resume; bytes of stack of start, event, run, decision and remaining. */
