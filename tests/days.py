@@ -117,7 +117,7 @@ def example():
         "Nothing is written to /nowhere/page.html")
 
 
-# The example of turns, by hand from document 02, (i): the thread that runs after each event. An accepted tick counts down the thread that ran until it.
+# The example of turns, by hand from document 02, (i): the thread that runs after each event. A tick counts down the thread that ran until the tick.
 TURNS = (
     # created, ready; twelve ticks; ended, the later one first
     [255, 255, 3, 3, *12 * [3], 3, 255]
@@ -133,7 +133,7 @@ TURNS_END = {26: 3, 30: 4, 34: 3, 43: 4, 51: 4, 55: 3}
 
 
 def turns():
-    """Two screen threads of one priority: thread 4 runs only where both are round robin; each slice that ends is told beside its event and by --at."""
+    """Two screen threads of one priority: thread 4 runs only where both are round robin. A slice that ends is told beside its event, and by --at."""
     folder = ROOT / "examples/turns"
     done = show(folder)
     rows = re.findall(r"^ +(\d+)(?:-(\d+))?  \d\d (\d) (\d\d) (\d\d\d)  .*?(?:; the slice of thread (\d+) ended)?$", done.stdout, re.M)
@@ -143,9 +143,9 @@ def turns():
     has(done, "REFUSED (12), line 34 of day.txt: its policy is 2, and there are two: 0 (first in, first out) and 1 (round robin)\n",
         "    23-25  00 1 03 003  13000 tick .. 15000 tick ", "       19  00 0 00 255  12000 create 3 partition 3 priority 10 mask 1 policy 1  idle\n")
     expect(done.returncode == 1 and table(done.stdout)["screen"][1] == "37,900", f"status {done.returncode}, {table(done.stdout)['screen']}")
-    has(show(folder, "--at", "26"), "thread 4 runs: it has priority 10, the highest of its job's ready threads that this core may run; it is the first "
-        "of 4, 3 in the line\nthis tick ended the slice of thread 3, which ran until then: it has a full one again, 4 ticks, and went to the tail of "
-        "the line\nthread 4 is round robin: 4 of the 4 ticks of its slice are left\n"
+    has(show(folder, "--at", "26"), "thread 4 runs: it has priority 10, the highest of its job's ready threads that this core may run; it is the "
+        "first of 4, 3 in the line\nthis tick ended the slice of thread 3, which ran until then: it has a full one again, 4 ticks, and went to "
+        "the tail of the line\nthread 4 is round robin: 4 of the 4 ticks of its slice are left\n"
         "the line, in order of becoming ready, or of the end of a slice: 4, 3\n")
     has(show(folder, "--at", "42"), "\nthread 4 is round robin: 1 of the 4 ticks of its slice is left\n")
     has(show(folder, "--at", "56"), "nothing is changed by it, and the decision before it stands:\n",

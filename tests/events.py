@@ -11,8 +11,8 @@ TOOL = ROOT / "tools/events"
 sys.path.insert(0, str(ROOT / "tools"))
 from lib import records  # in this process: a process for each stream and direction would take ten seconds
 
-# a line of each kind, and its record by the papers: kind, thread, partition, priority, stamp (low byte first), mask, policy (of a create: document 02,
-# (i)), two zeros
+# a line of each kind, and its record by the papers: kind, thread, partition, priority, stamp (low byte first), mask, policy (document 02, (i)), two
+# zeros
 KNOWN = [
     ("300 tick", "01 00 00 00 2c 01 00 00 00 000000"),
     ("4294967295 create 5 partition 1 priority 20 mask 3", "02 05 01 14 ff ff ff ff 03 000000"),
@@ -125,7 +125,7 @@ def main():
     for said in statuses():
         wrong += 1
         print(f"events: {said}")
-    print(f"events: {len(KNOWN) + 2} lines as the papers have them, {len(streams)} streams there and back, {len(BAD)} bad lines refused, {wrong} wrong")
+    print(f"events: {len(KNOWN) + 2} lines as the papers say, {len(streams)} streams there and back, {len(BAD)} bad lines refused, {wrong} wrong")
     sys.exit(wrong != 0)
 
 

@@ -140,8 +140,8 @@ class Judged:
 
 
 def slices(data, lines):
-    """For each event, from events and lines alone, as document 02, (i), puts it: the thread whose slice it ended, or None, and what is left then of the
-    slice of the thread that runs, 0 if it is not round robin."""
+    """For each event, from events and lines alone, as document 02, (i), puts it: the thread whose slice it ended, or None, and what is left then of
+    the slice of the thread that runs, 0 if it is not round robin."""
     policies, left, running = {}, {}, None
     for at, line in enumerate(lines):
         ended, event = None, data[12 * at:12 * at + 12]
