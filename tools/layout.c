@@ -17,7 +17,7 @@ LIES(saplingloft_settings, policy, 8);
 LIES(saplingloft_settings, core, 12);
 LIES(saplingloft_settings, count, 16);
 LIES(saplingloft_settings, shares, 20);
-SIZE(saplingloft_state, 680);
+SIZE(saplingloft_state, 552);
 LIES(saplingloft_state, settings, 0);
 LIES(saplingloft_state, used, 84);
 LIES(saplingloft_state, stamp, 148);
@@ -30,9 +30,7 @@ LIES(saplingloft_state, ready, 232);
 LIES(saplingloft_state, partitions, 296);
 LIES(saplingloft_state, priorities, 360);
 LIES(saplingloft_state, masks, 424);
-LIES(saplingloft_state, policies, 488);
-LIES(saplingloft_state, slices, 552);
-LIES(saplingloft_state, queue, 616);
+LIES(saplingloft_state, queue, 488);
 
 static struct saplingloft_state state;
 static uint32_t history[SAPLINGLOFT_HISTORY];
@@ -89,9 +87,6 @@ static void ticked(uint32_t stamp)
     accepted("tick", stamp, of(SAPLINGLOFT_KIND_TICK, 0, stamp));
 }
 
-/* Whether a thread is round robin: some of the ready ones and some of the others, and the one that runs in the end. */
-static int round_robin(int thread) { return thread % 3 == 0; }
-
 /* Every field that the library writes, with a value that no other has. */
 static void written(void)
 {
@@ -111,7 +106,7 @@ static void written(void)
     const int shares[16] = { 4, 4, 4, 4, 4, 4, 4, 4, 8, 8, 8, 8, 9, 9, 9, 9 };
     start(400, 999900, 1, 3, shares);
     for (int t = 0; t < 64; t++) {
-        struct saplingloft_record create = { SAPLINGLOFT_KIND_CREATE, t, t % 16, 100 + t, 0, (8 + t * 16) % 256, round_robin(t) };
+        struct saplingloft_record create = { SAPLINGLOFT_KIND_CREATE, t, t % 16, 100 + t, 0, (8 + t * 16) % 256 };
         accepted("create", t, create);
     }
     uint32_t stamp = 0;
@@ -143,14 +138,7 @@ static void written(void)
         same("partitions", t, t % 16, state.partitions[t]);
         same("priorities", t, t % 2 ? 150 + t : 100 + t, state.priorities[t]);
         same("masks", t, (8 + t * 16) % 256, state.masks[t]);
-        same("policies", t, round_robin(t), state.policies[t]);
     }
-    same("the running thread is round robin", state.running, 1, round_robin(state.running));
-    for (int t = 0; t < 64; t++) { /* one thread ran until each of the 399 ticks */
-        int slice = (uint32_t)t == state.running ? SAPLINGLOFT_SLICE - 399 % SAPLINGLOFT_SLICE : SAPLINGLOFT_SLICE;
-        same("slices", t, round_robin(t) ? slice : 0, state.slices[t]);
-    }
-    same("the tail of the queue", 0, state.running, state.queue[31]);
     for (int p = 0; p < 16; p++) {
         struct saplingloft_balance balance = saplingloft_remaining(&state, history, SAPLINGLOFT_HISTORY, p);
         long budget = shares[p] * 400 * 9999L;
@@ -185,25 +173,19 @@ static enum saplingloft_refusal verdict(const struct saplingloft_state *given)
 }
 
 /* A state with one byte changed is refused by every call, wherever the byte is, but for stamp and priorities, which may be anything, and for the low
- * bytes of policy, core, slot and time since tick, which may be something else; there all calls have to agree. Another policy does not fit the slice,
- * and no thread has a policy of 2. */
+ * bytes of policy, core, slot and time since tick, which may be something else; there all calls have to agree. */
 static void read(void)
 {
     for (size_t at = 0; at < sizeof state; at++) {
         bool anything = (at >= 148 && at < 152) || (at >= 360 && at < 424);
         bool something = at == 8 || at == 12 || at == 152 || at == 153 || (at >= 156 && at < 159);
-        bool partition = at >= 296 && at < 360, mask = at >= 424 && at < 488, slice = at >= 552 && at < 616;
+        bool partition = at >= 296 && at < 360, mask = at >= 424 && at < 488;
         struct saplingloft_state changed = state;
         uint8_t *byte = (uint8_t *)&changed + at;
-        *byte = partition ? 16 : mask ? 0 : slice ? SAPLINGLOFT_SLICE + 1 : *byte ^ 1;
+        *byte = partition ? 16 : mask ? 0 : *byte ^ 1;
         enum saplingloft_refusal refusal = verdict(&changed);
         if (!something)
             same("the refusal for a changed byte", at, anything ? 0 : 8, refusal);
-    }
-    for (int t = 0; t < 64; t++) {
-        struct saplingloft_state changed = state;
-        changed.policies[t] = 2;
-        same("the refusal for policy 2", t, 8, verdict(&changed));
     }
     for (int t = 1; t < 64; t += 2) { /* priorities and masks: who runs alone at the top, and who may not */
         struct saplingloft_state changed = state;
@@ -244,7 +226,7 @@ static void many(void)
     struct saplingloft_progress refused = saplingloft_run(&state, history, 3, ticks, sizeof ticks, (uint8_t[36]){ 0 }, 36);
     same("run: refusal", 100, SAPLINGLOFT_REFUSED_BUFFER, refused.refusal);
     same("run: taken", 100, 0, refused.taken);
-    accepted("create", 0, (struct saplingloft_record){ SAPLINGLOFT_KIND_CREATE, 0, 0, 0, 0, 1, 0 });
+    accepted("create", 0, (struct saplingloft_record){ SAPLINGLOFT_KIND_CREATE, 0, 0, 0, 0, 1 });
     accepted("ready", 0, of(SAPLINGLOFT_KIND_READY, 0, 0));
     accepted("block", 0, of(SAPLINGLOFT_KIND_BLOCK, 0, 5));
     same("an overrun", 0, -5, saplingloft_remaining(&state, history, 4, 0).remaining);

@@ -1,8 +1,7 @@
 /* The stack that each call takes at most, measured by running: bytes below the caller's frame, with the call's arguments and its return address.
  *
  * A call is made on a stack of its own that was painted before, and what is no longer painted afterwards was used; what an empty function uses
- * there is taken off. The states are a small one and one of the largest sheet, under both policies of a sheet, with threads of both policies; the
- * events are of every kind, accepted and refused.
+ * there is taken off. The states are a small one and one of the largest sheet, under both policies, the events of every kind, accepted and refused.
  * Each call is made once before it is measured, because the first one may have the system's linker look for a function. */
 #define _XOPEN_SOURCE 700 /* ucontext.h */
 #include "saplingloft.h"
@@ -86,8 +85,7 @@ static void measure(int number)
 /* An event as it comes, and in a run before two cut records; then the doors that only look. */
 static void tell(enum saplingloft_kind kind, int thread, int partition, int priority, uint32_t stamp, int mask)
 {
-    int policy = kind == SAPLINGLOFT_KIND_CREATE && thread % 2 == 0 ? SAPLINGLOFT_POLICY_ROUND_ROBIN : SAPLINGLOFT_POLICY_FIRST_IN_FIRST_OUT;
-    struct saplingloft_record record = { kind, thread, partition, priority, stamp, mask, policy };
+    struct saplingloft_record record = { kind, thread, partition, priority, stamp, mask };
     memset(events, 0, sizeof events);
     saplingloft_encode(&record, events);
     event_length = SAPLINGLOFT_RECORD;
