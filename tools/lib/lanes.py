@@ -1,5 +1,5 @@
 """What the picture and the trace draw: what each job and each thread did at any time, and what was used of the window."""
-from lib.records import FIRST_IN_FIRST_OUT, RESUME, ROUND_ROBIN, TICK
+from lib.records import RESUME, ROUND_ROBIN, TICK
 from lib.scheduler import NOBODY
 
 # `ELSEWHERE` is ready, on other cores alone; a job is never that. A job that is `BLOCKED` sleeps: none of its threads competes here.
@@ -83,11 +83,11 @@ class Lanes:
             track.set(now, RUNNING if partition == scheduler.running_partition() else READY if partition in scheduler.competing else BLOCKED)
         self.idle.set(now, RUNNING if scheduler.running == NOBODY else ABSENT)
 
-
     def title(self, thread):
         """What the lane of a thread is called, by partition and number. A number that comes back in the same job goes on in the same lane."""
-        when = {frozenset([ROUND_ROBIN]): ", round robin", frozenset([FIRST_IN_FIRST_OUT, ROUND_ROBIN]): ", at times round robin"}
-        return f"thread {thread[1]}{when.get(frozenset(self.policies[thread]), '')}"
+        policies = self.policies[thread]
+        when = "" if ROUND_ROBIN not in policies else ", round robin" if len(policies) == 1 else ", at times round robin"
+        return f"thread {thread[1]}{when}"
 
 
 def state_of(scheduler, number):

@@ -12,8 +12,8 @@ from lib.text import lines_of, quoted, whole_number
 
 LENGTH = 12
 TICK, CREATE, READY, BLOCK, PRIORITY, END, RESUME = range(1, 8)
-# a create's policy
-FIRST_IN_FIRST_OUT, ROUND_ROBIN = range(2)
+# a create's policy; 0 is first in, first out
+ROUND_ROBIN = 1
 
 # How a kind is written after its stamp: a word in capitals is the number of that name. These are also the bytes that the kind uses: beside
 # kind and stamp, all others are zero.
