@@ -51,7 +51,8 @@ def slices(step):
                f"it has a full one again, {SLICE} ticks, and went to the tail of the line")
     thread = scheduler.threads[scheduler.running]
     if thread.round_robin:
-        yield f"thread {scheduler.running} is round robin: {thread.slice} of the {SLICE} ticks of its slice {'is' if thread.slice == 1 else 'are'} left"
+        left = f"{thread.slice} of the {SLICE} ticks of its slice {'is' if thread.slice == 1 else 'are'} left"
+        yield f"thread {scheduler.running} is round robin: {left}"
 
 
 def line(scheduler):
