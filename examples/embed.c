@@ -2,8 +2,9 @@
  *
  *     embed FILE
  *
- * does the worked run of document 01, on the way saves it to FILE and goes on from there, and at the end damages FILE, which is then refused. Each
- * answer is printed as a line of the desk program: refusal, mode, partition, thread. */
+ * does the worked run of document 01, on the way saves it to FILE and goes on from there, and damages FILE, which is then refused. Then two threads
+ * of one priority take turns, and the file with a slice that no thread can have is refused too. Each answer is printed as a line of the desk program:
+ * refusal, mode, partition, thread. */
 #include "saplingloft.h"
 
 #include <stdio.h>
@@ -69,30 +70,61 @@ static int restore(struct saved *kept, const char *name)
     return answer.refusal == SAPLINGLOFT_ACCEPTED;
 }
 
-/* kind, thread, partition, priority, stamp, mask */
+#define FIFO SAPLINGLOFT_POLICY_FIRST_IN_FIRST_OUT
+#define ROUND_ROBIN SAPLINGLOFT_POLICY_ROUND_ROBIN
+
+/* kind, thread, partition, priority, stamp, mask, policy */
 static const struct saplingloft_record before[] = {
-    { SAPLINGLOFT_KIND_CREATE, 0, 0, 10, 0, 1 }, { SAPLINGLOFT_KIND_CREATE, 1, 1, 20, 0, 1 },  { SAPLINGLOFT_KIND_READY, 0, 0, 0, 0, 0 },
-    { SAPLINGLOFT_KIND_READY, 1, 0, 0, 0, 0 },   { SAPLINGLOFT_KIND_TICK, 0, 0, 0, 1000, 0 }, { SAPLINGLOFT_KIND_TICK, 0, 0, 0, 2000, 0 },
+    { SAPLINGLOFT_KIND_CREATE, 0, 0, 10, 0, 1, FIFO }, { SAPLINGLOFT_KIND_CREATE, 1, 1, 20, 0, 1, FIFO },
+    { SAPLINGLOFT_KIND_READY, 0, 0, 0, 0, 0, 0 },      { SAPLINGLOFT_KIND_READY, 1, 0, 0, 0, 0, 0 },
+    { SAPLINGLOFT_KIND_TICK, 0, 0, 0, 1000, 0, 0 },    { SAPLINGLOFT_KIND_TICK, 0, 0, 0, 2000, 0, 0 },
 };
 static const struct saplingloft_record after[] = {
-    { SAPLINGLOFT_KIND_TICK, 0, 0, 0, 3000, 0 },
-    { SAPLINGLOFT_KIND_TICK, 0, 0, 0, 4000, 0 },
-    { SAPLINGLOFT_KIND_READY, 1, 0, 0, 4500, 0 }, /* refused: it is ready */
-    { SAPLINGLOFT_KIND_TICK, 0, 0, 0, 7000, 0 },  /* refused: it comes too late */
+    { SAPLINGLOFT_KIND_TICK, 0, 0, 0, 3000, 0, 0 },
+    { SAPLINGLOFT_KIND_TICK, 0, 0, 0, 4000, 0, 0 },
+    { SAPLINGLOFT_KIND_READY, 1, 0, 0, 4500, 0, 0 }, /* refused: it is ready */
+    { SAPLINGLOFT_KIND_TICK, 0, 0, 0, 7000, 0, 0 },  /* refused: it comes too late */
 };
+/* Two screen threads of priority 10: after a slice of the first the second has its turn. */
+static const struct saplingloft_record turns[] = {
+    { SAPLINGLOFT_KIND_CREATE, 2, 1, 10, 0, 1, ROUND_ROBIN },
+    { SAPLINGLOFT_KIND_CREATE, 3, 1, 10, 0, 1, ROUND_ROBIN },
+    { SAPLINGLOFT_KIND_CREATE, 4, 1, 10, 0, 1, 2 }, /* refused: there is no such policy */
+    { SAPLINGLOFT_KIND_READY, 2, 0, 0, 0, 0, 0 },
+    { SAPLINGLOFT_KIND_READY, 3, 0, 0, 0, 0, 0 },
+    { SAPLINGLOFT_KIND_TICK, 0, 0, 0, 1000, 0, 0 },
+    { SAPLINGLOFT_KIND_TICK, 0, 0, 0, 2000, 0, 0 },
+    { SAPLINGLOFT_KIND_TICK, 0, 0, 0, 3000, 0, 0 },
+    { SAPLINGLOFT_KIND_TICK, 0, 0, 0, 4000, 0, 0 },
+};
+#define COUNT(array) (sizeof(array) / sizeof *(array))
+
+static void tell_all(struct saved *kept, const struct saplingloft_record *records, size_t count)
+{
+    for (size_t i = 0; i < count; i++)
+        tell(kept, &records[i]);
+}
+
+/* Whether what was saved is refused. */
+static int refused(const struct saved *kept, const char *name)
+{
+    struct saved other;
+    return save(kept, name) && !restore(&other, name);
+}
 
 int main(int count, char **words)
 {
     struct saved kept, restored;
     if (count != 2 || start(&kept) != SAPLINGLOFT_ACCEPTED)
         return 1;
-    for (size_t i = 0; i < sizeof before / sizeof *before; i++)
-        tell(&kept, &before[i]);
+    tell_all(&kept, before, COUNT(before));
     if (!save(&kept, words[1]) || !restore(&restored, words[1]))
         return 1;
-    for (size_t i = 0; i < sizeof after / sizeof *after; i++)
-        tell(&restored, &after[i]);
-
+    tell_all(&restored, after, COUNT(after));
     restored.state.used[0] += 1; /* as a bad file might have it */
-    return !save(&restored, words[1]) || restore(&kept, words[1]);
+    if (!refused(&restored, words[1]) || start(&kept) != SAPLINGLOFT_ACCEPTED)
+        return 1;
+    tell_all(&kept, turns, COUNT(turns));
+    kept.state.slices[3] = SAPLINGLOFT_SLICE + 1;
+    return !refused(&kept, words[1]);
 }

@@ -17,7 +17,7 @@
  * Both together can be written to a file and read back later. Beside them a file has to hold SAPLINGLOFT_VERSION and the state's size, because the
  * state itself tells neither; examples/embed.c shows it. Numbers lie in it as the processor has them, so a file is for processors of one byte order.
  *
- * Sizes: the state has 552 bytes, the history 4 * count * window, which is at most 25,600. Of code the archive for x86-64 has 22 KB, 9 KB of them for
+ * Sizes: the state has 680 bytes, the history 4 * count * window, which is at most 25,600. Of code the archive for x86-64 has 22 KB, 9 KB of them for
  * saplingloft_run alone, which a program that makes no runs does not link. A call there takes at most SAPLINGLOFT_STACK bytes of stack, as
  * tools/stack.c measures them; `make board` prints these figures for other processors.
  *
@@ -31,8 +31,9 @@
 #include <stddef.h>
 #include <stdint.h>
 
-/* Of the state and of the calls. Another number means that a saved state of this one cannot be used. */
-#define SAPLINGLOFT_VERSION 1
+/* Of the state and of the calls. Another number means that a saved state of this one cannot be used. Version 2 has time slices: `policies` and
+ * `slices` in the state and in the library's own functions, and `policy` at the end of struct saplingloft_record; 0 is what version 1 did. */
+#define SAPLINGLOFT_VERSION 2
 
 enum {
     SAPLINGLOFT_PARTITIONS = 16,
@@ -41,6 +42,7 @@ enum {
     SAPLINGLOFT_SHEET = 240,    /* bytes of the longest sheet */
     SAPLINGLOFT_HISTORY = 6400, /* numbers of history that suffice for every sheet: 16 partitions, a window of 400 ticks */
     SAPLINGLOFT_STACK = 1536,   /* bytes of stack that each call was seen to do with, on x86-64 */
+    SAPLINGLOFT_SLICE = 4,      /* ticks of a round-robin thread's full slice */
     SAPLINGLOFT_IDLE = 255      /* the running thread where none runs */
 };
 
@@ -83,6 +85,16 @@ enum saplingloft_kind {
     SAPLINGLOFT_KIND_RESUME = 7
 };
 
+/* The policy of a thread, which its create names: whether it takes turns with threads of its partition that have its priority. (The policy of a
+ * sheet, P, is another one: how partitions are compared.) A thread that is first in, first out keeps its place in the ready queue until it blocks or
+ * ends. A round-robin thread has a slice of SAPLINGLOFT_SLICE ticks. Each accepted tick counts down the slice of the thread that ran until the tick,
+ * by one however little of the tick it ran; at 0 the slice is full again, and the thread goes to the tail of the ready queue, before the decision. A
+ * create and a ready give a full slice too. A block, a new priority, a resume, and another thread that comes in between leave it as it is. */
+enum saplingloft_policy {
+    SAPLINGLOFT_POLICY_FIRST_IN_FIRST_OUT = 0,
+    SAPLINGLOFT_POLICY_ROUND_ROBIN = 1
+};
+
 /* ---- What the caller keeps. The numbers in front are offsets: there is no padding, so each byte of the structs is a byte of some number. */
 
 /* What a sheet says. 84 bytes. */
@@ -95,7 +107,7 @@ struct saplingloft_settings {
     /* 20 */ uint32_t shares[SAPLINGLOFT_PARTITIONS]; /* S, in percent; 0 past the last partition */
 };
 
-/* The state on one core. 552 bytes, aligned to 4. Thread t is place t of the arrays; all five are 0 there if it does not exist. */
+/* The state on one core. 680 bytes, aligned to 4. Thread t is place t of the arrays; all seven are 0 there if it does not exist. */
 struct saplingloft_state {
     /*   0 */ struct saplingloft_settings settings;
     /*  84 */ uint32_t used[SAPLINGLOFT_PARTITIONS];    /* cycles charged to each partition in the window; 0 past the last */
@@ -109,13 +121,15 @@ struct saplingloft_state {
     /* 296 */ uint8_t partitions[SAPLINGLOFT_THREADS];
     /* 360 */ uint8_t priorities[SAPLINGLOFT_THREADS];  /* 255 is highest */
     /* 424 */ uint8_t masks[SAPLINGLOFT_THREADS];       /* bit m is set where core m may run the thread */
-    /* 488 */ uint8_t queue[SAPLINGLOFT_THREADS];       /* the ready threads in order of becoming ready, then zeros */
+    /* 488 */ uint8_t policies[SAPLINGLOFT_THREADS];    /* enum saplingloft_policy: 0 or 1 */
+    /* 552 */ uint8_t slices[SAPLINGLOFT_THREADS];      /* ticks that are left: 1 to SAPLINGLOFT_SLICE of a round-robin thread, 0 of any other */
+    /* 616 */ uint8_t queue[SAPLINGLOFT_THREADS];       /* the ready threads in order of becoming ready, or of a slice's end, then zeros */
 };
 
 #ifdef __cplusplus
-static_assert(sizeof(struct saplingloft_state) == 552, "the state has no padding");
+static_assert(sizeof(struct saplingloft_state) == 680, "the state has no padding");
 #else
-_Static_assert(sizeof(struct saplingloft_state) == 552, "the state has no padding");
+_Static_assert(sizeof(struct saplingloft_state) == 680, "the state has no padding");
 #endif
 
 /* ---- What calls answer. Beside a refusal the other numbers are 0. */
@@ -151,21 +165,23 @@ extern "C" {
 #endif
 
 uint32_t saplingloft_lent_start(const uint8_t *sheet, uint64_t sheet_length, uint32_t *settings, uint32_t *shares, uint32_t *used, uint32_t *clock,
-                                uint8_t *exists, uint8_t *ready, uint8_t *partitions, uint8_t *priorities, uint8_t *masks, uint8_t *queue,
-                                uint32_t *history, uint64_t history_length);
+                                uint8_t *exists, uint8_t *ready, uint8_t *partitions, uint8_t *priorities, uint8_t *masks, uint8_t *policies,
+                                uint8_t *slices, uint8_t *queue, uint32_t *history, uint64_t history_length);
 uint32_t saplingloft_lent_event(const uint32_t *settings, const uint32_t *shares, uint32_t *used, uint32_t *clock, uint8_t *exists, uint8_t *ready,
-                                uint8_t *partitions, uint8_t *priorities, uint8_t *masks, uint8_t *queue, uint32_t *history,
-                                uint64_t history_length, const uint8_t *event, uint64_t event_length);
+                                uint8_t *partitions, uint8_t *priorities, uint8_t *masks, uint8_t *policies, uint8_t *slices, uint8_t *queue,
+                                uint32_t *history, uint64_t history_length, const uint8_t *event, uint64_t event_length);
 uint32_t saplingloft_lent_run(const uint32_t *settings, const uint32_t *shares, uint32_t *used, uint32_t *clock, uint8_t *exists, uint8_t *ready,
-                              uint8_t *partitions, uint8_t *priorities, uint8_t *masks, uint8_t *queue, uint32_t *history, uint64_t history_length,
-                              const uint8_t *events, uint64_t events_length, uint8_t *lines, uint64_t lines_length);
+                              uint8_t *partitions, uint8_t *priorities, uint8_t *masks, uint8_t *policies, uint8_t *slices, uint8_t *queue,
+                              uint32_t *history, uint64_t history_length, const uint8_t *events, uint64_t events_length, uint8_t *lines,
+                              uint64_t lines_length);
 uint32_t saplingloft_lent_decision(const uint32_t *settings, const uint32_t *shares, const uint32_t *used, const uint32_t *clock,
                                    const uint8_t *exists, const uint8_t *ready, const uint8_t *partitions, const uint8_t *priorities,
-                                   const uint8_t *masks, const uint8_t *queue, const uint32_t *history, uint64_t history_length);
+                                   const uint8_t *masks, const uint8_t *policies, const uint8_t *slices, const uint8_t *queue,
+                                   const uint32_t *history, uint64_t history_length);
 uint32_t saplingloft_lent_remaining(const uint32_t *settings, const uint32_t *shares, const uint32_t *used, const uint32_t *clock,
                                     const uint8_t *exists, const uint8_t *ready, const uint8_t *partitions, const uint8_t *priorities,
-                                    const uint8_t *masks, const uint8_t *queue, const uint32_t *history, uint64_t history_length,
-                                    uint32_t partition, uint32_t *remaining);
+                                    const uint8_t *masks, const uint8_t *policies, const uint8_t *slices, const uint8_t *queue,
+                                    const uint32_t *history, uint64_t history_length, uint32_t partition, uint32_t *remaining);
 uint32_t saplingloft_lent_read_sheet(const uint8_t *sheet, uint64_t sheet_length, uint32_t *settings, uint32_t *shares);
 uint32_t saplingloft_lent_write_sheet(const uint32_t *settings, const uint32_t *shares, uint8_t *sheet, uint64_t sheet_length);
 
@@ -175,7 +191,7 @@ uint32_t saplingloft_lent_write_sheet(const uint32_t *settings, const uint32_t *
 
 #define SAPLINGLOFT_PARTS(state)                                                                                                               \
     &(state)->settings.window, (state)->settings.shares, (state)->used, &(state)->stamp, (state)->exists, (state)->ready, (state)->partitions, \
-        (state)->priorities, (state)->masks, (state)->queue
+        (state)->priorities, (state)->masks, (state)->policies, (state)->slices, (state)->queue
 
 /* The four numbers that a number holds. */
 static inline struct saplingloft_answer saplingloft_unpack(uint32_t packed)
@@ -270,6 +286,7 @@ struct saplingloft_record {
     uint8_t priority;
     uint32_t stamp; /* a reading of the cycle counter */
     uint8_t mask;
+    uint8_t policy; /* enum saplingloft_policy; 0, first in, first out, where a create does not name it */
 };
 
 /* Writes the twelve bytes of a record. */
@@ -284,7 +301,8 @@ static inline void saplingloft_encode(const struct saplingloft_record *record, u
     event[6] = (uint8_t)(record->stamp >> 16 & 255);
     event[7] = (uint8_t)(record->stamp >> 24);
     event[8] = record->mask;
-    event[9] = event[10] = event[11] = 0;
+    event[9] = record->policy;
+    event[10] = event[11] = 0;
 }
 
 /* What a refusal means. */
@@ -303,7 +321,7 @@ static inline const char *saplingloft_sentence(enum saplingloft_refusal refusal)
     case SAPLINGLOFT_REFUSED_KIND: return "the event's kind is unknown, or a byte that it does not use is not zero";
     case SAPLINGLOFT_REFUSED_ELAPSED: return "more than two tick periods since the last tick";
     case SAPLINGLOFT_REFUSED_THREAD: return "the thread is above 63, or is created and exists, or does not exist";
-    case SAPLINGLOFT_REFUSED_PARTITION: return "the partition is not below the count, or a thread is created with mask 0";
+    case SAPLINGLOFT_REFUSED_PARTITION: return "the partition is not below the count, or a thread is created with mask 0 or a policy above 1";
     case SAPLINGLOFT_REFUSED_READINESS: return "a ready thread is made ready, or one that is not ready is blocked";
     case SAPLINGLOFT_REFUSED_LENGTH: return "the event is not twelve bytes long";
     }

@@ -1,7 +1,8 @@
 #!/usr/bin/env python3
 """The library for a board's processor: it is made of the module of the proved library for x86-64, calls nothing from outside that
 tools/boards/targets.ini does not list, and answers like x86-64, byte for byte, on the vectors, on streams of the reference and on damaged states. The
-kernel of examples/board decides as the desk does on the same records, and a job that hogs the processor does not starve the radio.
+kernel of examples/board decides as the desk does on the same records, a job that hogs the processor does not starve the radio, and its two threads
+take turns.
 
 What needs a cross compiler or an emulator runs where they are there. What is left out is said, with the Debian packages that it needs.
 """
@@ -11,7 +12,7 @@ import sys
 from pathlib import Path
 
 from expecting import Expecting
-from folders import DESK, ROOT, VECTORS, Judged, show, table
+from folders import DESK, ROOT, VECTORS, Judged, show, slices, table
 
 sys.path.insert(0, str(ROOT / "tools"))
 from boards import archive as board
@@ -52,7 +53,7 @@ def archives():
     made = [board.Archive(name, sources, *how) for name, how in board.targets().items()]
     for archive in made:
         expect(not archive.surprises(), f"{archive.target}: the archive calls {' '.join(sorted(archive.surprises()))}, and the list does not have it")
-        expect(archive.state == 552 and archive.data == 0, f"{archive.target}: a state of {archive.state} bytes, {archive.data} bytes of data")
+        expect(archive.state == 680 and archive.data == 0, f"{archive.target}: a state of {archive.state} bytes, {archive.data} bytes of data")
         expect(all(0 < stack < 4096 for stack in archive.stacks), f"{archive.target}: stacks of {archive.stacks}")
         # the list is not empty words: without the first name of it that the archive calls, it would be refused
         archive.allowed = archive.allowed - {min(archive.outside)}
@@ -165,6 +166,27 @@ void __wrap_restart(void)
 """
 
 
+def turns(name, data, lines):
+    """Of the screen's threads, 3 and 4, neither is found running by more than four ticks while the other one is ready: then it is the other's turn.
+    Ticks at which another job runs do not count."""
+    ready, running, found, longest, changes = set(), None, (None, 0), 0, 0
+    for at, line in enumerate(lines):
+        kind, thread = data[12 * at:12 * at + 2]
+        if line[:2] != b"00":
+            continue
+        if kind in (3, 4):
+            ready = ready | {thread} if kind == 3 else ready - {thread}
+        if thread in (3, 4) or not {3, 4} <= ready:
+            found = None, 0
+        elif kind == 1 and running in (3, 4):
+            changes += found[0] not in (None, running)
+            found = running, found[1] + 1 if found[0] == running else 1
+            longest = max(longest, found[1])
+        running = int(line[8:11])
+    ends = [ended for ended, _ in slices(data, lines) if ended is not None]
+    expect(longest == 4 and changes > 20 and set(ends) == {3, 4}, f"{name}: turns of up to {longest} ticks, {changes} changes; slices end: {ends}")
+
+
 def demonstration(name):
     """The kernel on a board: what it printed, and the folder of its day."""
     folder = OUT / "demo" / name
@@ -189,6 +211,7 @@ def demonstration(name):
 
     # The screen has the highest priority and never blocks, and the radio always wants the processor: it gets what demand 3 promises.
     judged = Judged((folder / "shares.txt").read_bytes(), data, [lines[i:i + 12] for i in range(0, len(lines), 12)])
+    turns(name, data, [lines[i:i + 12] for i in range(0, len(lines), 12)])
     rows = table(show(folder, "--brief").stdout)
     found, bound = list(judged.stretches(2)), judged.bound(2)
     expect(bound == 68_750 and len(found) > 50, f"{name}: a bound of {bound} and {len(found)} stretches")
@@ -202,9 +225,11 @@ def damaged(name):
     """A damaged state is not taken up after a restart, and is given up where an event finds it; nor is one of another sheet taken up. Each time the
     kernel and its day start anew."""
     damage, other_sheet = "state->used[RADIO] += 1;", "state->settings.shares[RADIO] += 1; state->settings.shares[SCREEN] -= 1;"
+    slice_of_five, no_policy = "state->slices[MENU] = SAPLINGLOFT_SLICE + 1;", "state->policies[RADIO] = 2;"
     restart, go_on = "__real_restart();", "for (;;) {}"
-    for label, change, afterwards, said in (("restart", damage, restart, ["the saved state is not taken up: the state is not sound"]),
-                                            ("event", damage, go_on, ["the state is not sound: it is given up"]),
+    not_taken_up, given_up = ["the saved state is not taken up: the state is not sound"], ["the state is not sound: it is given up"]
+    for label, change, afterwards, said in (("restart", damage, restart, not_taken_up), ("event", damage, go_on, given_up),
+                                            ("slice", slice_of_five, restart, not_taken_up), ("policy", no_policy, go_on, given_up),
                                             ("sheet", other_sheet, restart, [])):
         folder = OUT / "demo" / f"{name}-{label}"
         folder.mkdir(parents=True, exist_ok=True)
@@ -235,7 +260,8 @@ def main():
             demonstration(name)
             damaged(name)
         stacks()
-        print("board: on a Cortex-M4 and a Cortex-M0 the kernel decides as the desk does, and beside a job that hogs the radio got what is promised")
+        print("board: on a Cortex-M4 and a Cortex-M0 the kernel decides as the desk does, beside a job that hogs the radio got what is promised, and "
+              "the job's threads take turns")
     sys.exit(expect.wrong != 0)
 
 

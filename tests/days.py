@@ -1,7 +1,8 @@
 #!/usr/bin/env python3
 """tools/day: its numbers are those of document 01's words, on the paper's run, on runs of another scheduler and on days made here; each event stands
-beside the desk's own line; refusals name their line; what starved is named, and what is not promised; whatever is in the folder is told in a
-sentence; the README shows what the tool prints; and where the program says something else than the rules, the tool says so.
+beside the desk's own line; refusals name their line; what starved is named, and what is not promised; a slice that ended is told where document 02,
+(i), has it; whatever is in the folder is told in a sentence; the README shows what the tool prints; and where the program says something else than
+the rules, the tool says so.
 """
 import random
 import re
@@ -12,7 +13,7 @@ import tempfile
 from pathlib import Path
 
 from expecting import Expecting
-from folders import ROOT, VECTORS, WORKED_SHEET, WORKED_TEXT, Judged, desk_lines, fill, random_day, sheet_of, show, table
+from folders import ROOT, VECTORS, WORKED_SHEET, WORKED_TEXT, Judged, desk_lines, fill, random_day, sheet_of, show, slices, table
 
 sys.path.insert(0, str(ROOT / "tools"))
 from lib import programs, records, replay, sheets, why
@@ -116,6 +117,61 @@ def example():
         "Nothing is written to /nowhere/page.html")
 
 
+# The example of turns, by hand from document 02, (i): the thread that runs after each event. A tick counts down the thread that ran until the tick.
+TURNS = (
+    # created, ready; twelve ticks; ended, the later one first
+    [255, 255, 3, 3, *12 * [3], 3, 255]
+    # created as round robin, ready; ticks 1 to 14: at the 4th, 8th and 12th a slice ends
+    + [255, 255, 3, 3, *3 * [3], *4 * [4], *4 * [3], *3 * [4]]
+    # tracking comes with two ticks left of thread 4's slice, two ticks are tracking's, and it goes; the second tick after that ends the slice
+    + [4, 0, 0, 0, 4, 4, 3, 3, 3]
+    # thread 3 blocks and comes back; thread 4, whose slice is full, has four ticks, and then thread 3, whose slice is full, has four; refused
+    + [4, 4, *3 * [4], *4 * [3], 4, 0]
+)
+# the numbers of the events that end a slice, and whose it is
+TURNS_END = {26: 3, 30: 4, 34: 3, 43: 4, 51: 4, 55: 3}
+
+
+def turns():
+    """Two screen threads of one priority: thread 4 runs only where both are round robin. A slice that ends is told beside its event, and by --at."""
+    folder = ROOT / "examples/turns"
+    done = show(folder)
+    rows = re.findall(r"^ +(\d+)(?:-(\d+))?  \d\d (\d) (\d\d) (\d\d\d)  .*?(?:; the slice of thread (\d+) ended)?$", done.stdout, re.M)
+    ran = [int(thread) for first, last, _, _, thread, _ in rows for _ in range(int(first), int(last or first) + 1)]
+    expect(ran == TURNS, f"the threads of the example of turns are {ran}")
+    expect({int(first): int(ended) for first, _, _, _, _, ended in rows if ended} == TURNS_END, "other slices end in the example of turns")
+    has(done, "REFUSED (12), line 34 of day.txt: its policy is 2, and there are two: 0 (first in, first out) and 1 (round robin)\n",
+        "    23-25  00 1 03 003  13000 tick .. 15000 tick ", "       19  00 0 00 255  12000 create 3 partition 3 priority 10 mask 1 policy 1  idle\n")
+    expect(done.returncode == 1 and table(done.stdout)["screen"][1] == "37,900", f"status {done.returncode}, {table(done.stdout)['screen']}")
+    has(show(folder, "--at", "26"), "thread 4 runs: it has priority 10, the highest of its job's ready threads that this core may run; it is the "
+        "first of 4, 3 in the line\nthis tick ended the slice of thread 3, which ran until then: it has a full one again, 4 ticks, and went to "
+        "the tail of the line\nthread 4 is round robin: 4 of the 4 ticks of its slice are left\n"
+        "the line, in order of becoming ready, or of the end of a slice: 4, 3\n")
+    has(show(folder, "--at", "42"), "\nthread 4 is round robin: 1 of the 4 ticks of its slice is left\n")
+    has(show(folder, "--at", "56"), "nothing is changed by it, and the decision before it stands:\n",
+        "\nthe last accepted tick ended the slice of thread 3, which ran until then: it has a full one again, 4 ticks,")
+    has(show(folder, "--at", "5"), "\nthe line, in order of becoming ready: 3, 4\n")
+    part = (ROOT / "README.md").read_text().split("## Threads of one priority")[1].split("\n## ")[0]
+    shown = [line[4:] for line in part.splitlines() if line.startswith("    ")]
+    expect(len(shown) > 3 and all(line in done.stdout.splitlines() for line in shown), "the README shows other turns than the example")
+
+
+def turns_told(folder, seed):
+    """On a day of threads of one priority, most of them round robin, each event that ends a slice, and has another thread of the job run, says so; no
+    other does."""
+    shares = ((60, 40), (100,))[seed % 2]  # two jobs alternate, so that few slices end with a turn of the same job
+    sheet, data = sheet_of(3, 400, shares), random_day(seed, 3, 400, len(shares), 8, 150, (10,), (0, 1, 1, 1))
+    lines = desk_lines(fill(folder, sheet, data=data), data)
+    said = {int(number): int(thread) for number, thread in re.findall(r"^ +(\d+) .*; the slice of thread (\d+) ended$", show(folder).stdout, re.M)}
+    wanted, before = {}, b"00 0 00 255\n"
+    for number, (line, (ended, _)) in enumerate(zip(lines, slices(data, lines)), 1):
+        if ended is not None and before[5:7] == line[5:7] and int(line[8:11]) != ended:
+            wanted[number] = ended
+        before = line if line[:2] == b"00" else before
+    expect(said == wanted, f"seed {seed}: the slices that end are {wanted}, and said is {said}")
+    return decisions(f"turns of seed {seed}", sheet, data, lines), len(wanted)
+
+
 def statuses(folder):
     """What is bad usage, what is refused, and what is in the folder."""
     good = fill(folder / "good", WORKED_SHEET, "0 tick # a remark\n")
@@ -147,6 +203,8 @@ def statuses(folder):
         (1, show(fill(folder / "same", WORKED_SHEET, "0 tick\n", names="0 a\n1 a\n")), "names.txt, line 2: another job is called 'a' already"),
         (1, show(fill(folder / "long", WORKED_SHEET, "0 tick\n", names="0 " + 41 * "a")), "names.txt, line 1: a name has at most 40 characters"),
         (1, show(fill(folder / "many", WORKED_SHEET, "0 tick\n", names=5000 * "9" + " a")), "names.txt, line 1: the sheet has partitions 0 to 1"),
+        (1, show(fill(folder / "half", WORKED_SHEET, "0 create 0 partition 0 priority 9 mask 1 policy 0,5\n")),
+         "day.txt, line 1: policy is a whole number, and not '0,5'"),
         (1, show(fill(folder / "less", WORKED_SHEET, "-1 tick\n")), "day.txt, line 1: stamp is a whole number, and not '-1'"),
         (1, show(fill(folder / "huge", WORKED_SHEET, 5000 * "9" + " tick\n")), "day.txt, line 1: stamp is at most 4294967295"),
     ]:
@@ -178,15 +236,15 @@ def damaged(folder, seed):
     expect(done.returncode in (0, 1) and (sentence if done.stderr else done.stdout), f"{broken} as {bytes(data)!r}: {done.returncode}, {done.stderr}")
 
 
-def decisions(run):
-    """Every decision of a run is explained: the mode and the thread are the desk's, and each other competing job is told why it came later."""
-    data, told = (run / "events.bin").read_bytes(), 0
-    lines = [programs.read_line(part) for part in records.split((run / "expected.txt").read_bytes())]
-    if programs.sheet_refused(lines):
+def decisions(name, sheet, data, lines):
+    """Every decision of a run is explained: the mode and the thread are the desk's, each other competing job is told why it came later, and a slice
+    that ended, and what is left of one, are as document 02, (i), has them."""
+    read, told = [programs.read_line(line) for line in lines], 0
+    if programs.sheet_refused(read):
         return 0
-    sheet = sheets.read((run / "shares.txt").read_bytes())
+    sheet = sheets.read(sheet)
     names = [f"job {p}" for p in range(len(sheet.shares))]
-    for step in replay.replay(sheet, records.split(data), lines):
+    for step, (ended, left) in zip(replay.replay(sheet, records.split(data), read), slices(data, lines), strict=True):
         text = list(why.text(step, Day(records.split(data), [], []), names))
         if step.accepted and step.line.mode:
             told += 1
@@ -194,7 +252,11 @@ def decisions(run):
             compete = sum(re.match(r"job \d+ +yes ", line) is not None for line in text)
             said = "\n".join(text)
             expect(f"\nmode {step.line.mode}, " in said and f"\nthread {step.line.thread} runs" in said and len(later) == compete - 1,
-                   f"{run.name}: the decision after event {step.number} is told as {said}")
+                   f"{name}: the decision after event {step.number} is told as {said}")
+            expect(re.findall(r"this tick ended the slice of thread (\d+),", said) == [str(ended)] * (ended is not None)
+                   and (ended is None or text[-1].endswith(f" {ended}"))
+                   and re.findall(rf"\nthread {step.line.thread} is round robin: (\d) of the 4 ticks", said) == [str(left)] * (left > 0),
+                   f"{name}: after event {step.number} the slice of {ended} ended, {left} ticks are left, and it is told as {said}")
     return told
 
 
@@ -222,20 +284,26 @@ def main():
         worked(folder / "worked")
         stretches = days = told = 0
         for run in sorted(VECTORS.iterdir()):
-            told += decisions(run)
             sheet = (run / "shares.txt").read_bytes() if (run / "shares.txt").exists() else None
-            stretches += counted(folder / run.name, run.name, sheet, (run / "events.bin").read_bytes())
+            data = (run / "events.bin").read_bytes()
+            told += decisions(run.name, sheet, data, records.split((run / "expected.txt").read_bytes()))
+            stretches += counted(folder / run.name, run.name, sheet, data)
             days += 1
         tight = show(folder / "tight", "--brief").stdout
         expect("partition 0 got 200 cycles or more where 200 are promised (1 stretch of 10 ticks)" in tight, "tight is not tight")
         for seed in range(24):
             window, shares = 2 + seed % 5, ((50, 30, 20), (90, 10), (34, 33, 33, 0))[seed % 3]
             sheet = sheet_of(window, 400, shares, seed % 2)
-            stretches += counted(folder / f"day{seed}", f"day {seed}", sheet, random_day(seed, window, 400, len(shares), 6, 120))
+            data = random_day(seed, window, 400, len(shares), 6, 120, *([(10, 20), (0, 1)] if seed % 4 == 3 else []))
+            stretches += counted(folder / f"day{seed}", f"day {seed}", sheet, data)
             days += 1
+        found = [turns_told(folder / f"turns{seed}", seed) for seed in range(6)]
+        told += sum(count for count, _ in found)
+        expect(sum(count for _, count in found) > 30, f"only {sum(count for _, count in found)} turns were told")
         expect(stretches > 500, f"only {stretches} stretches were compared")
         starving(folder / "starving")
         example()
+        turns()
         statuses(folder / "statuses")
         for seed in range(40):
             damaged(folder / f"damaged{seed}", seed)

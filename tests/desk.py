@@ -59,9 +59,9 @@ def told(program, sheet, events, waits):
 
 
 def busy(count):
-    """A long stream of ticks, wakes and sleeps, some of them refused."""
+    """A long stream of ticks, wakes and sleeps, some of them refused, of threads of which some take turns."""
     draw = random.Random(count)
-    events = [record(2, 0, t, t % 2, draw.randrange(256), 1) for t in range(8)]
+    events = [record(2, 0, t, t % 2, draw.randrange(2), 1, int(t < 6)) for t in range(8)]
     stamp = 0
     while len(events) < count:
         stamp += draw.choice((0, 200, 500, 1000, 3000))

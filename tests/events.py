@@ -11,23 +11,36 @@ TOOL = ROOT / "tools/events"
 sys.path.insert(0, str(ROOT / "tools"))
 from lib import records  # in this process: a process for each stream and direction would take ten seconds
 
-# a line of each kind, and its record by the paper's table: kind, thread, partition, priority, stamp (low byte first), mask, three zeros
+# a line of each kind, and its record by the papers: kind, thread, partition, priority, stamp (low byte first), mask, policy (document 02, (i)), two
+# zeros
 KNOWN = [
     ("300 tick", "01 00 00 00 2c 01 00 00 00 000000"),
     ("4294967295 create 5 partition 1 priority 20 mask 3", "02 05 01 14 ff ff ff ff 03 000000"),
+    ("7 create 5 partition 1 priority 20 mask 3 policy 1", "02 05 01 14 07 00 00 00 03 01 0000"),
+    ("7 create 5 partition 1 priority 20 mask 3 policy 255", "02 05 01 14 07 00 00 00 03 ff 0000"),
     ("0 ready 63", "03 3f 00 00 00 00 00 00 00 000000"),
     ("16777216 block 2", "04 02 00 00 00 00 00 01 00 000000"),
     ("2 priority 9 to 255", "05 09 00 ff 02 00 00 00 00 000000"),
     ("3 end 4", "06 04 00 00 03 00 00 00 00 000000"),
     ("65536 resume", "07 00 00 00 00 00 01 00 00 000000"),
 ]
+# Policy 0 may be written, and is not when the record is written as text.
+WRITTEN = ("7 create 5 partition 1 priority 20 mask 3 policy 0", "7 create 5 partition 1 priority 20 mask 3", "02 05 01 14 07 00 00 00 03 000000")
+# records that are no line: byte 9 of another kind, and bytes 10 and 11 of a create
+RAW = ["010000002c01000000010000", "030500000700000000010000", "020501140700000003000100", "020501140700000003010001"]
 # a line that stands for many ticks, and its records; the counter wraps
 MANY = ("4294967295 ticks 3 every 256", "01000000 ffffffff 00000000" "01000000 ff000000 00000000" "01000000 ff010000 00000000")
 BAD = [
     ("x tick", "line 1: stamp is a whole number"),
     ("5", "line 1: a stamp alone"),
     ("5 tick 3", "line 1: write it as: STAMP tick"),
-    ("\n\n5 create 1", "line 3: write it as: STAMP create THREAD partition PARTITION priority PRIORITY mask MASK"),
+    ("\n\n5 create 1", "line 3: write it as: STAMP create THREAD partition PARTITION priority PRIORITY mask MASK [policy POLICY]\n"),
+    ("5 tick\n6 create 1 partition 0 priority 9 mask 1 policy", "line 2: write it as: STAMP create THREAD partition PARTITION priority PRIORITY"),
+    ("6 create 1 partition 0 priority 9 mask 1 policy 0,5", "line 1: policy is a whole number, and not '0,5'"),
+    ("6 create 1 partition 0 priority 9 mask 1 policy -1", "line 1: policy is a whole number, and not '-1'"),
+    ("6 create 1 partition 0 priority 9 mask 1 policy 256", "line 1: policy is at most 255, and not '256'"),
+    ("6 create 1 partition 0 priority 9 mask 1 round robin", "line 1: 'policy' is wanted, and not 'round'"),
+    ("6 ready 1 policy 1", "line 1: write it as: STAMP ready THREAD\n"),
     ("4294967296 tick", "line 1: stamp is at most 4294967295"),
     ("1 ready 256", "line 1: thread is at most 255"),
     ("1 ready -1", "line 1: thread is a whole number"),
@@ -90,6 +103,13 @@ def main():
         if records.encode(text.encode()) != data or records.decode(data).split() != text.split():
             wrong += 1
             print(f"events: {text!r} and {data.hex()} are not each other's")
+    if records.encode(WRITTEN[0].encode()) != bytes.fromhex(WRITTEN[2]) or records.decode(bytes.fromhex(WRITTEN[2])) != WRITTEN[1] + "\n":
+        wrong += 1
+        print(f"events: {WRITTEN[0]!r} is not written as {WRITTEN[1]!r}")
+    for record in map(bytes.fromhex, RAW):
+        if records.decode(record) != f"raw {record.hex()}\n" or records.encode(records.decode(record).encode()) != record:
+            wrong += 1
+            print(f"events: {record.hex()} is written as {records.decode(record)!r}")
     if records.encode(MANY[0].encode()) != bytes.fromhex(MANY[1]):
         wrong += 1
         print(f"events: {MANY[0]!r} is not {MANY[1]!r}")
@@ -105,7 +125,7 @@ def main():
     for said in statuses():
         wrong += 1
         print(f"events: {said}")
-    print(f"events: {len(KNOWN) + 1} lines as the paper has them, {len(streams)} streams there and back, {len(BAD)} bad lines refused, {wrong} wrong")
+    print(f"events: {len(KNOWN) + 2} lines as the papers say, {len(streams)} streams there and back, {len(BAD)} bad lines refused, {wrong} wrong")
     sys.exit(wrong != 0)
 
 

@@ -57,10 +57,10 @@ def table(text):
     return rows
 
 
-def random_day(seed, window, tick, count, threads, length):
+def random_day(seed, window, tick, count, threads, length, priorities=range(256), policies=(0,)):
     """Events of a day whose ticks are mostly on time, in which threads mostly stay ready, with a resume, late ticks and refusals here and there."""
-    draw = random.Random(seed)
-    events = [record(2, 0, t, t % count, draw.randrange(256), draw.choice((1, 1, 1, 3, 2))) for t in range(threads)]
+    draw, draw_policy = random.Random(seed), random.Random(seed + 1)
+    events = [record(2, 0, t, t % count, draw.choice(priorities), draw.choice((1, 1, 1, 3, 2)), draw_policy.choice(policies)) for t in range(threads)]
     events += [record(3, 0, t) for t in range(threads) if draw.random() < 0.9]
     now = 0
     for _ in range(length):
@@ -70,7 +70,8 @@ def random_day(seed, window, tick, count, threads, length):
             if kind == 6 and draw.random() < 0.8:
                 kind = 3
             partition = draw.randrange(count) if kind == 2 else 0
-            events.append(record(kind, stamp, thread, partition, draw.randrange(256) if kind in (2, 5) else 0, 1 if kind == 2 else 0))
+            priority = draw.choice(priorities) if kind in (2, 5) else 0
+            events.append(record(kind, stamp, thread, partition, priority, int(kind == 2), draw_policy.choice(policies) if kind == 2 else 0))
             now = stamp
         now = end
         events.append(record(1, now))
@@ -136,6 +137,26 @@ class Judged:
             on_time = all(sum(self.elapsed[a + 1:b + 1]) == self.tick for a, b in zip(within, within[1:]))
             if on_time and 7 not in self.kinds[opening:closing] and all(p in w for w in self.waiting[opening:closing]):
                 yield sum(e for e, r in zip(self.elapsed[opening + 1:closing + 1], self.ran[opening + 1:closing + 1]) if r == p)
+
+
+def slices(data, lines):
+    """For each event, from events and lines alone, as document 02, (i), puts it: the thread whose slice it ended, or None, and what is left then of
+    the slice of the thread that runs, 0 if it is not round robin."""
+    policies, left, running = {}, {}, None
+    for at, line in enumerate(lines):
+        ended, event = None, data[12 * at:12 * at + 12]
+        if line[:2] == b"00":
+            kind, thread, policy = event[0], event[1], event[9]
+            if kind == 2:
+                policies[thread] = policy
+            if kind in (2, 3):
+                left[thread] = 4
+            if kind == 1 and policies.get(running) == 1:
+                left[running] -= 1
+                if left[running] == 0:
+                    left[running], ended = 4, running
+            running = None if line[3:4] == b"0" else int(line[8:11])
+        yield ended, left[running] if policies.get(running) == 1 else 0
 
 
 def desk_lines(folder, data):

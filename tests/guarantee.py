@@ -1,9 +1,9 @@
 #!/usr/bin/env python3
 """Document 01's example of the guarantee, on a hostile list of events: W 100, C 1000, four partitions, share 10: at least 7,750 cycles
-in 200 ticks. The partition with 10 percent waits throughout, at the lowest priority; the others wake, sleep and change priority so as to
-run past their budgets. What was charged is worked out here from the events and the printed lines alone. And a list on which the bound is reached
-exactly, tests/vectors/tight, made for another scheduler: W 5, C 100, shares 70, 25 and 5; partition 0 waits throughout, is promised 350 less twice
-75, and between the ticks at 1000 and 2000 gets 200, and not one more.
+in 200 ticks. The partition with 10 percent waits throughout, at the lowest priority, in every other list with two threads that take turns; the
+others wake, sleep and change priority so as to run past their budgets. What was charged is worked out here from the events and the printed lines
+alone. And a list on which the bound is reached exactly, tests/vectors/tight, made for another scheduler: W 5, C 100, shares 70, 25 and 5; partition 0
+waits throughout, is promised 350 less twice 75, and between the ticks at 1000 and 2000 gets 200, and not one more.
 
     tests/guarantee.py DESK
 """
@@ -18,22 +18,26 @@ from records import record
 WINDOW, TICK = 100, 1000
 SHARES = (40, 10, 25, 25)
 WAITING, BOUND = 1, 7750
+SECOND = 4  # the waiting partition's second thread
 TIGHT = Path(__file__).resolve().parent / "vectors/tight"
 TIGHT_WINDOW, TIGHT_TICK, TIGHT_WAITING, TIGHT_BOUND = 5, 100, 0, 200
 
 
-def hostile(rate, seed, rounds):
+def hostile(rate, seed, rounds, policy):
     """A list of events that works against the waiting partition; whether it is the worst there is, nobody has shown. In each round the others
     sleep for a window of ticks of double length, so that it is charged twenty times its budget. Then two of them wake above it and use
     the free time of the third, which wakes, with all of its budget, when the waiting partition has budget again. All that time, two windows of
-    full ticks, they sleep, wake and change priority at odd moments, each in `rate` of a hundred periods, so that they run past their budgets."""
+    full ticks, they sleep, wake and change priority at odd moments, each in `rate` of a hundred periods, so that they run past their budgets. The
+    policy is that of the threads; where it is round robin, two of the waiting partition take turns."""
     draw = random.Random(seed)
     stamp = 2**32 - 50 * TICK
     events = [(7, record(7, stamp), stamp)]
     for partition in range(4):
         priority = 1 if partition == WAITING else 100 + partition
-        events.append((2, record(2, stamp, partition, partition, priority, 1), stamp))
+        events.append((2, record(2, stamp, partition, partition, priority, 1, policy), stamp))
     events.append((3, record(3, stamp, WAITING), stamp))
+    if policy == 1:
+        events += [(2, record(2, stamp, SECOND, WAITING, 1, 1, policy), stamp), (3, record(3, stamp, SECOND), stamp)]
     for turn in range(rounds):
         for _ in range(WINDOW):
             stamp += 2 * TICK
@@ -92,16 +96,19 @@ def tight(desk):
 def main():
     desk = Path(sys.argv[1]).resolve()
     sheet = "W 00 %06d\nC 00 %06d\nP 00 000000\nM 00 000000\n" % (WINDOW, TICK) + "".join("S %02d %06d\n" % s for s in enumerate(SHARES))
-    found = []
+    found, took_turns = [], False
     for policy in (0, 1):
         for seed in range(140):
-            events = hostile(seed % 7, seed, 6)
+            events = hostile(seed % 7, seed, 6, seed % 2)
             lines = printed(desk, sheet.replace("P 00 000000", "P 00 %06d" % policy).encode(), b"".join(e[1] for e in events))
+            took_turns |= any(line[8:11] == b"%03d" % SECOND for line in lines)
             found += stretches([(kind, stamp) for kind, _, stamp in events], lines, WINDOW, TICK, WAITING)
     print(f"guarantee: at least {min(found)} cycles in each of {len(found)} stretches of 200 ticks; {BOUND} are promised")
     reached = tight(desk)
     print(f"guarantee: {min(reached)} cycles in the tightest of {len(reached)} stretches of {2 * TIGHT_WINDOW} ticks; {TIGHT_BOUND} are promised")
-    sys.exit(min(found) < BOUND or min(reached) != TIGHT_BOUND)
+    if not took_turns:
+        print("guarantee: the waiting partition's second thread never ran")
+    sys.exit(min(found) < BOUND or min(reached) != TIGHT_BOUND or not took_turns)
 
 
 if __name__ == "__main__":

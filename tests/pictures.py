@@ -154,6 +154,31 @@ def joined(folder):
     expect(set(strokes) == {"little", "blocked", "running"}, f"narrow pieces are drawn as {set(strokes)}")
 
 
+# The lanes of the example of turns, by hand from document 02, (i), in thousands of cycles: thread 3 keeps thread 4 from running until 12, and then
+# each runs for four ticks. Tracking runs from 26.3 to 28.4; thread 3 blocks from 32.5 to 32.8, and thread 4, whose slice is full, has the four ticks
+# up to 36.
+TURNS = {
+    "thread 3, at times round robin": {
+        "running": [(0, 16), (20, 24), (30, 32.5), (36, 40)], "ready": [(16, 20), (24, 30), (32.8, 36)], "blocked": [(32.5, 32.8)]},
+    "thread 4, at times round robin": {
+        "running": [(16, 20), (24, 26.3), (28.4, 30), (32.5, 36)], "ready": [(0, 16), (20, 24), (26.3, 28.4), (30, 32.5), (36, 40)]},
+}
+
+
+def turns(folder):
+    """The lanes of two threads that take turns; a lane says of its thread that it is round robin."""
+    shutil.copytree(ROOT / "examples/turns", folder)
+    page, _, _ = drawn(folder)
+    lanes = {row["name"]: row["strokes"] for row in rows_of(page, "screen", "thread")}
+    wanted = {name: {kind: [tuple(round(at * WIDTH / 40) for at in piece) for piece in pieces] for kind, pieces in strokes.items()}
+              for name, strokes in TURNS.items()}
+    expect(lanes == wanted, f"the threads of the example of turns are drawn as {lanes}")
+    expect([row["name"] for row in rows_of(page, "tracking", "thread")] == ["thread 0"], "tracking's thread has another lane")
+    text = "0 create 5 partition 0 priority 1 mask 1 policy 1\n0 ready 5\n1000 tick\n"
+    page, _, _ = drawn(fill(folder / "one", sheet_of(2, 1000, (100,)), text))
+    expect([row["name"] for row in rows_of(page, "partition 0", "thread")] == ["thread 5, round robin"], "a round-robin thread has another lane")
+
+
 def slept(folder):
     """A line through all lanes for each of a few resumes; where they are many, one for those within a pixel, beside the ticks alone."""
     for count, lines in ((3, 3), (40, 0)):
@@ -188,12 +213,13 @@ def main():
             measured(folder / f"day{seed}", seed)
         joined(folder / "joined")
         slept(folder / "slept")
+        turns(folder / "turns")
         large(folder / "large")
         shutil.copytree(ROOT / "examples/workshop", folder / "workshop")
         page, text, _ = drawn(folder / "workshop")
         expect(text.count('class="beyond"') == text.count("overdrawn by") == 2, "another number of jobs is overdrawn in the example")
         expect([row["name"] for row in rows_of(page, "screen", "thread")] == ["thread 3", "thread 4"], "the screen's threads have other lanes")
-    print(f"pictures: pages of 14 days, one of them of 100,000 events, {expect.wrong} things wrong")
+    print(f"pictures: pages of 16 days, one of them of 100,000 events, {expect.wrong} things wrong")
     sys.exit(expect.wrong != 0)
 
 

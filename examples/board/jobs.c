@@ -1,5 +1,7 @@
-/* Four jobs of a receiver kit. What they do is a loop that counts; when they block and wake one another is as it might be. */
+/* Four jobs of a receiver kit, one of them with two threads. What they do is a loop that counts; when they block and wake one another is as it might
+ * be. */
 #include "kernel.h"
+#include "saplingloft.h"
 
 /* Works for about so many thousandths of a tick, if nobody else runs. */
 static void work(uint32_t thousandths)
@@ -59,4 +61,21 @@ static void screen(void)
     }
 }
 
-const struct job jobs[JOBS] = { { tracking, 20 }, { logger, 10 }, { radio, 30 }, { screen, 40 } };
+/* Draws the menu now and then, and while the button is down all the time. It has the priority of the thread above; both are round robin, so that they
+ * take turns. */
+static void menu(void)
+{
+    for (;;) {
+        work(100);
+        if (!busy_time())
+            sleep_for(8);
+    }
+}
+
+const struct work works[THREADS] = {
+    [TRACKING] = { tracking, TRACKING, 20, SAPLINGLOFT_POLICY_FIRST_IN_FIRST_OUT },
+    [LOGGER] = { logger, LOGGER, 10, SAPLINGLOFT_POLICY_FIRST_IN_FIRST_OUT },
+    [RADIO] = { radio, RADIO, 30, SAPLINGLOFT_POLICY_FIRST_IN_FIRST_OUT },
+    [SCREEN] = { screen, SCREEN, 40, SAPLINGLOFT_POLICY_ROUND_ROBIN },
+    [MENU] = { menu, SCREEN, 40, SAPLINGLOFT_POLICY_ROUND_ROBIN },
+};

@@ -6,12 +6,12 @@
  * - take_up:  after a reset the saved state is taken up again, if it is of one piece.
  *
  * Everything here runs in the clock's interrupt or in a job's call of the kernel. Both have one priority, so neither interrupts the other, and
- * nothing has to be locked. Both run on the main stack: so the 1.5 KB that a call of the library may take are there once, and not for each job. */
+ * nothing has to be locked. Both run on the main stack: so the 1.5 KB that a call of the library may take are there once, and not for each thread. */
 #include "board.h"
 #include "kernel.h"
 #include "saplingloft.h"
 
-enum { HISTORY = JOBS * WINDOW, STACK = 128, IDLE = JOBS };
+enum { HISTORY = JOBS * WINDOW, STACK = 128, IDLE = THREADS };
 
 /* What the scheduler keeps. It lies in memory that start.c does not clear, so that it is still there after a reset. Beside it stands what it does not
  * tell itself. A kit that may lose its power writes a copy of this to flash, with a checksum. */
@@ -27,13 +27,13 @@ struct thread {
     uint32_t *top;
     uint32_t stack[STACK] __attribute__((aligned(8)));
 };
-static struct thread threads[JOBS + 1]; /* the last one idles */
-struct thread *running, *chosen;        /* the one that runs, and the one that the scheduler has chosen */
+static struct thread threads[THREADS + 1]; /* the last one idles */
+struct thread *running, *chosen;           /* the one that runs, and the one that the scheduler has chosen */
 
 static volatile uint32_t ticks;    /* since the start */
 static uint32_t tick_stamp;        /* the counter's reading at the last tick */
-static uint32_t due[JOBS];         /* the tick that a sleeping job waits for */
-static uint8_t asleep[JOBS];
+static uint32_t due[THREADS];      /* the tick that a sleeping thread waits for */
+static uint8_t asleep[THREADS];
 static uint32_t day, lines;        /* the files that events and answers go to */
 
 extern const uint8_t sheet[], sheet_end[]; /* shares.txt, in start.c */
@@ -77,9 +77,9 @@ static void tell(const struct saplingloft_record *record)
         INTERRUPTS = ASK_FOR_SWITCH; /* it comes when this interrupt is over */
 }
 
-static void tell_of(enum saplingloft_kind kind, uint32_t job, uint32_t stamp)
+static void tell_of(enum saplingloft_kind kind, uint32_t thread, uint32_t stamp)
 {
-    struct saplingloft_record record = { .kind = kind, .thread = (uint8_t)job, .stamp = stamp };
+    struct saplingloft_record record = { .kind = kind, .thread = (uint8_t)thread, .stamp = stamp };
     tell(&record);
 }
 
@@ -87,7 +87,7 @@ static void tell_of(enum saplingloft_kind kind, uint32_t job, uint32_t stamp)
 static void refused(const struct saplingloft_record *record, enum saplingloft_refusal refusal)
 {
     switch (refusal) {
-    case SAPLINGLOFT_REFUSED_READINESS: /* a job was woken that is awake: so be it */
+    case SAPLINGLOFT_REFUSED_READINESS: /* a thread was woken that is awake: so be it */
         return;
     case SAPLINGLOFT_REFUSED_ELAPSED: /* the clock jumped: forget what was used before, and tell it again */
         tell_of(SAPLINGLOFT_KIND_RESUME, 0, record->stamp);
@@ -114,10 +114,10 @@ static void tick(void)
     ticks++;
     tick_stamp += period();
     tell_of(SAPLINGLOFT_KIND_TICK, 0, tick_stamp);
-    for (uint32_t job = 0; job < JOBS; job++) {
-        if (asleep[job] && ticks - due[job] <= UINT32_MAX / 2) { /* it is past: asked of the difference, as this count wraps too */
-            asleep[job] = 0;
-            tell_of(SAPLINGLOFT_KIND_READY, job, tick_stamp);
+    for (uint32_t thread = 0; thread < THREADS; thread++) {
+        if (asleep[thread] && ticks - due[thread] <= UINT32_MAX / 2) { /* it is past: asked of the difference, as this count wraps too */
+            asleep[thread] = 0;
+            tell_of(SAPLINGLOFT_KIND_READY, thread, tick_stamp);
         }
     }
 }
@@ -151,7 +151,7 @@ static void call(uint32_t number, uint32_t argument)
 uint32_t uptime(void) { return ticks; }
 void sleep_for(uint32_t length) { call(SLEEP, length); }
 void wait(void) { call(WAIT, 0); }
-void wake(uint32_t job) { call(WAKE, job); }
+void wake(uint32_t thread) { call(WAKE, thread); }
 void erase_flash(void) { call(ERASE, 0); }
 
 /* A call arrives, with the caller's registers. */
@@ -274,13 +274,14 @@ int main(void)
 
     tick_stamp = 0u - 80 * period();                 /* any reading will do; from this one the counter wraps after eighty ticks */
     tell_of(SAPLINGLOFT_KIND_RESUME, 0, tick_stamp); /* where the counter stands now: nothing is charged for the time before */
-    for (uint32_t job = 0; job < JOBS; job++) { /* the jobs begin anew after a reset, so all are ready */
-        struct saplingloft_record create = { SAPLINGLOFT_KIND_CREATE, (uint8_t)job, (uint8_t)job, jobs[job].priority, tick_stamp, 1 };
-        prepare(&threads[job], jobs[job].body);
-        if (!kept.state.exists[job])
+    for (uint32_t thread = 0; thread < THREADS; thread++) { /* they begin anew after a reset, so all are ready */
+        const struct work *work = &works[thread];
+        struct saplingloft_record create = { SAPLINGLOFT_KIND_CREATE, (uint8_t)thread, work->job, work->priority, tick_stamp, 1, work->policy };
+        prepare(&threads[thread], work->body);
+        if (!kept.state.exists[thread])
             tell(&create);
-        if (!kept.state.ready[job])
-            tell_of(SAPLINGLOFT_KIND_READY, job, tick_stamp);
+        if (!kept.state.ready[thread])
+            tell_of(SAPLINGLOFT_KIND_READY, thread, tick_stamp);
     }
     become_idle();
 }

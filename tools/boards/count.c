@@ -2,8 +2,8 @@
  *
  * The emulator gives each instruction a nanosecond (-icount shift=0), and SysTick counts 25 million times in a second: 40 instructions are one count.
  * Means are of a stream that goes round through a block, a ready, a new priority and a tick, a quarter of a tick apart; every event of it is
- * accepted. The largest numbers are of it and of what else can happen: creating, making ready and ending one thread after the other, a refusal; under
- * both policies. A resume, which clears all rows, is counted apart.
+ * accepted. Every other thread is round robin. The largest numbers are of it and of what else can happen: creating, making ready and ending one
+ * thread after the other, ticks that end a slice, a refusal; under both policies of a sheet. A resume, which clears all rows, is counted apart.
  *
  * Prints a line for each size: partitions, threads, window; instructions of event, mean and most, of an event of a run, mean and most, of the test of
  * a state, mean and most, and of a resume; bytes of stack of start, event, run, decision and remaining. */
@@ -123,7 +123,8 @@ static uint32_t stamp, phase;
 
 static void put(size_t at, enum saplingloft_kind kind, uint32_t thread, uint32_t partition, uint32_t priority, uint32_t mask)
 {
-    struct saplingloft_record record = { kind, (uint8_t)thread, (uint8_t)partition, (uint8_t)priority, stamp, (uint8_t)mask };
+    uint8_t policy = kind == SAPLINGLOFT_KIND_CREATE && thread % 2 == 0 ? SAPLINGLOFT_POLICY_ROUND_ROBIN : SAPLINGLOFT_POLICY_FIRST_IN_FIRST_OUT;
+    struct saplingloft_record record = { kind, (uint8_t)thread, (uint8_t)partition, (uint8_t)priority, stamp, (uint8_t)mask, policy };
     saplingloft_encode(&record, events + at * SAPLINGLOFT_RECORD);
 }
 
@@ -194,6 +195,18 @@ static void tell_of(enum saplingloft_kind kind, uint32_t thread, uint32_t partit
     tell(wanted, kind == SAPLINGLOFT_KIND_RESUME ? RESUME_EVENT : OTHER_EVENT);
 }
 
+/* Thread 0 stands first in the ready queue, has the highest priority for a slice of ticks, and goes to the tail. The ticks have no length, so that
+ * nobody's budget is used. */
+static void end_slice(uint32_t threads)
+{
+    tell_of(SAPLINGLOFT_KIND_SET_PRIORITY, 0, 0, 255, 0, SAPLINGLOFT_ACCEPTED);
+    for (uint32_t i = 0; i < SAPLINGLOFT_SLICE; i++)
+        tell_of(SAPLINGLOFT_KIND_TICK, 0, 0, 0, 0, SAPLINGLOFT_ACCEPTED);
+    if (state.queue[threads - 1] != 0)
+        stop("a slice did not end");
+    tell_of(SAPLINGLOFT_KIND_SET_PRIORITY, 0, 0, 1, 0, SAPLINGLOFT_ACCEPTED);
+}
+
 static void size(uint32_t partitions, uint32_t threads, uint32_t window, uint32_t policy)
 {
     stamp = phase = 0;
@@ -204,6 +217,7 @@ static void size(uint32_t partitions, uint32_t threads, uint32_t window, uint32_
         tell_of(SAPLINGLOFT_KIND_READY, t, 0, 0, 0, SAPLINGLOFT_ACCEPTED);
         tell_of(SAPLINGLOFT_KIND_READY, t, 0, 0, 0, SAPLINGLOFT_REFUSED_READINESS);
     }
+    end_slice(threads);
     make_stream(threads);
     run();
     make_stream(threads);

@@ -63,19 +63,23 @@ static size_t make_sheet(uint8_t sheet[SAPLINGLOFT_SHEET + 1])
     return (size_t)at - (wrong == 5 ? below(13) : 0);
 }
 
+/* Any priority, or one of two, so that threads have the same one and take turns. */
+static uint8_t priority(void) { return (uint8_t)below(below(2) == 0 ? 256 : 2); }
+
 /* First all threads are created and made ready, so that all partitions compete, and then anything may happen, mostly ticks. */
 static void make_event(uint8_t event[SAPLINGLOFT_RECORD], uint32_t step)
 {
     static const uint8_t kinds[] = { 1, 1, 1, 1, 1, 1, 2, 3, 3, 3, 3, 4, 4, 5, 5, 6, 7 };
     uint32_t tick = sound.state.settings.tick;
-    struct saplingloft_record record = { (enum saplingloft_kind)kinds[below(below(8) == 0 ? sizeof kinds : sizeof kinds - 1)], 0, 0, 0, 0, 0 };
+    struct saplingloft_record record = { (enum saplingloft_kind)kinds[below(below(8) == 0 ? sizeof kinds : sizeof kinds - 1)], 0, 0, 0, 0, 0, 0 };
     if (step < 2 * THREADS) {
         record.kind = step < THREADS ? SAPLINGLOFT_KIND_CREATE : SAPLINGLOFT_KIND_READY;
         record.thread = (uint8_t)(step % THREADS);
         record.partition = step < THREADS ? (uint8_t)(step % sound.state.settings.count) : 0;
-        record.priority = step < THREADS ? (uint8_t)below(256) : 0;
+        record.priority = step < THREADS ? priority() : 0;
         record.stamp = sound.state.stamp;
         record.mask = step < THREADS ? 255 : 0;
+        record.policy = step < THREADS ? (uint8_t)below(2) : 0;
         saplingloft_encode(&record, event);
         return;
     }
@@ -85,21 +89,33 @@ static void make_event(uint8_t event[SAPLINGLOFT_RECORD], uint32_t step)
     if (record.kind == SAPLINGLOFT_KIND_CREATE) {
         record.partition = (uint8_t)below(below(20) == 0 ? 256 : sound.state.settings.count);
         record.mask = (uint8_t)(below(3) == 0 ? below(256) : 255);
+        record.policy = (uint8_t)below(below(20) == 0 ? 256 : 2);
     }
     if (record.kind == SAPLINGLOFT_KIND_CREATE || record.kind == SAPLINGLOFT_KIND_SET_PRIORITY)
-        record.priority = (uint8_t)below(256);
+        record.priority = priority();
     saplingloft_encode(&record, event);
     uint32_t place = below(SAPLINGLOFT_RECORD), byte = below(256);
     if (below(30) == 0)
         event[place] = (uint8_t)byte;
 }
 
-/* In two of three cases one to three places, of the state or of a row: a bit, or any number. */
+/* A policy or a slice of a thread becomes a small number, which it may have: 0 or 1, and 0 to SAPLINGLOFT_SLICE. */
+static void damage_turn(void)
+{
+    uint8_t *bytes = below(2) == 0 ? damaged.state.policies : damaged.state.slices;
+    bytes[below(THREADS)] = (uint8_t)below(SAPLINGLOFT_SLICE + 2);
+}
+
+/* In two of three cases one to three places, of the state or of a row: a bit, or any number; now and then a policy or a slice. */
 static void damage(void)
 {
     damaged = sound;
     if (below(3) == 0)
         return;
+    if (below(6) == 0) {
+        damage_turn();
+        return;
+    }
     for (uint32_t times = 1 + below(3); times > 0; times--) {
         uint8_t *bytes = below(3) == 0 ? (uint8_t *)damaged.history : (uint8_t *)&damaged.state;
         size_t most = bytes == (uint8_t *)&damaged.state ? sizeof damaged.state : sizeof(uint32_t) * length;

@@ -1,5 +1,5 @@
 """What the picture and the trace draw: what each job and each thread did at any time, and what was used of the window."""
-from lib.records import RESUME, TICK
+from lib.records import RESUME, ROUND_ROBIN, TICK
 from lib.scheduler import NOBODY
 
 # `ELSEWHERE` is ready, on other cores alone; a job is never that. A job that is `BLOCKED` sleeps: none of its threads competes here.
@@ -33,9 +33,11 @@ class Lanes:
     def __init__(self, sheet):
         self.jobs = [Track() for _ in sheet.shares]
         self.threads = {}        # by partition and number: a number may come back in another partition
+        self.policies = {}       # by partition and number: the policies that such threads were created with
         self.home = {}           # the partition of each thread that exists
         self.used = [[(0, 0)] for _ in sheet.shares]
         self.ticks, self.resumes, self.refusals = [], [], []
+        self.ends = []           # of slices: the time, and the thread's partition and number
         self.idle = Track()
         self.running = NOBODY
         self.end = 0
@@ -51,6 +53,8 @@ class Lanes:
             self.resumes.append(step.end)
         self.take_used(step)
         self.take_states(step)
+        if step.scheduler.ended is not None:
+            self.ends.append((step.end, (self.home[step.scheduler.ended], step.scheduler.ended)))
 
     def close(self):
         """Nothing is left open: a piece without an end goes on to the end of the day."""
@@ -70,6 +74,7 @@ class Lanes:
         named = step.event.thread
         if named in scheduler.threads:
             self.home[named] = scheduler.threads[named].partition
+            self.policies.setdefault((self.home[named], named), set()).add(scheduler.threads[named].policy)
         for number in {named, self.running, scheduler.running}:
             if number in self.home:
                 self.threads.setdefault((self.home[number], number), Track()).set(now, state_of(scheduler, number))
@@ -77,6 +82,12 @@ class Lanes:
         for partition, track in enumerate(self.jobs):
             track.set(now, RUNNING if partition == scheduler.running_partition() else READY if partition in scheduler.competing else BLOCKED)
         self.idle.set(now, RUNNING if scheduler.running == NOBODY else ABSENT)
+
+    def title(self, thread):
+        """What the lane of a thread is called, by partition and number. A number that comes back in the same job goes on in the same lane."""
+        policies = self.policies[thread]
+        when = "" if ROUND_ROBIN not in policies else ", round robin" if len(policies) == 1 else ", at times round robin"
+        return f"thread {thread[1]}{when}"
 
 
 def state_of(scheduler, number):

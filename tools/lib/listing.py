@@ -10,7 +10,15 @@ def meaning(step, day, names):
         return f"REFUSED ({line.refusal}), {day.source(step.number - 1)}: {step.words}"
     if line.thread == NOBODY:
         return "idle"
-    return f"{names[line.partition]} runs (thread {line.thread}), {MODES[line.mode]}"
+    return f"{names[line.partition]} runs (thread {line.thread}), {MODES[line.mode]}{turn(step)}"
+
+
+def turn(step):
+    """The event ended a slice, and so another thread of the same job runs now: before it the one whose slice ended was the job's choice."""
+    ended, thread = step.scheduler.ended, step.line.thread
+    if ended in (None, thread) or step.scheduler.threads[ended].partition != step.line.partition:
+        return ""
+    return f"; the slice of thread {ended} ended"
 
 
 class Row:

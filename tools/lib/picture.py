@@ -221,9 +221,9 @@ def job_rows(partition, lanes, account, names, scale):
     starved = ' <span class="overdrawn">starved</span>' if account.starved(partition) else ""
     yield f"<h2>{escape(names[partition])}<small>{said}{starved}</small></h2>"
     yield row("job", "the job", drawing(paths(lanes.jobs[partition].spans(lanes.end), scale), 10))
-    for (home, number), track in sorted(lanes.threads.items()):
-        if home == partition:
-            yield row("thread", f"thread {number}", drawing(paths(track.spans(lanes.end), scale), 10))
+    for thread, track in sorted(lanes.threads.items()):
+        if thread[0] == partition:
+            yield row("thread", lanes.title(thread), drawing(paths(track.spans(lanes.end), scale), 10))
     yield used_row(partition, lanes, account.sheet, scale)
 
 

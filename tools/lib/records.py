@@ -1,8 +1,9 @@
 """Event records of twelve bytes, and the lines of text that stand for them.
 
-A line is the stamp, what happens, and its numbers by name; # starts a comment, empty lines are passed over. `ticks` stands for many ticks: how many,
-and how many cycles lie between one and the next. A record that says nothing of this kind (an unknown kind, a byte that should be zero, a cut
-last record) is written as `raw` with its bytes in hexadecimal, so that decode and then encode give back any input whatever, byte for byte.
+A line is the stamp, what happens, and its numbers by name; # starts a comment, empty lines are passed over. A create's policy is left out where it
+is 0. `ticks` stands for many ticks: how many, and how many cycles lie between one and the next. A record that says nothing of this kind (an unknown
+kind, a byte that should be zero, a cut last record) is written as `raw` with its bytes in hexadecimal, so that decode and then encode give back any
+input whatever, byte for byte.
 """
 from typing import NamedTuple
 
@@ -11,42 +12,48 @@ from lib.text import lines_of, quoted, whole_number
 
 LENGTH = 12
 TICK, CREATE, READY, BLOCK, PRIORITY, END, RESUME = range(1, 8)
+# a create's policy; 0 is first in, first out
+ROUND_ROBIN = 1
 
 # How a kind is written after its stamp: a word in capitals is the number of that name. These are also the bytes that the kind uses: beside
 # kind and stamp, all others are zero.
 FORMS = {
     TICK: ("tick",),
-    CREATE: ("create", "THREAD", "partition", "PARTITION", "priority", "PRIORITY", "mask", "MASK"),
+    CREATE: ("create", "THREAD", "partition", "PARTITION", "priority", "PRIORITY", "mask", "MASK", "policy", "POLICY"),
     READY: ("ready", "THREAD"),
     BLOCK: ("block", "THREAD"),
     PRIORITY: ("priority", "THREAD", "to", "PRIORITY"),
     END: ("end", "THREAD"),
     RESUME: ("resume",),
 }
+# the end of a form that is not written where its number is 0, and may be left out where it is read
+OPTIONAL = ("policy", "POLICY")
 KINDS = {form[0]: kind for kind, form in FORMS.items()}
 TICKS = ("ticks", "COUNT", "every", "PERIOD")
-LIMITS = {"stamp": 2**32 - 1, "thread": 255, "partition": 255, "priority": 255, "mask": 255, "count": 1_000_000, "period": 2**32 - 1}
+LIMITS = {"stamp": 2**32 - 1, "thread": 255, "partition": 255, "priority": 255, "mask": 255, "policy": 255, "count": 1_000_000,
+          "period": 2**32 - 1}
 
 
 class Event(NamedTuple):
-    """A record's bytes, apart. `rest` is bytes 9 to 11."""
+    """A record's bytes, apart. `rest` is bytes 10 and 11."""
     kind: int
     thread: int
     partition: int
     priority: int
     stamp: int
     mask: int
+    policy: int
     rest: bytes
 
 
 def read(data):
     """The event of a whole record."""
-    return Event(data[0], data[1], data[2], data[3], int.from_bytes(data[4:8], "little"), data[8], data[9:12])
+    return Event(data[0], data[1], data[2], data[3], int.from_bytes(data[4:8], "little"), data[8], data[9], data[10:12])
 
 
-def record(kind, stamp, thread=0, partition=0, priority=0, mask=0):
+def record(kind, stamp, thread=0, partition=0, priority=0, mask=0, policy=0):
     """The record of an event. A stamp is a counter reading of 32 bits, which wraps."""
-    return bytes([kind, thread, partition, priority]) + (stamp % 2**32).to_bytes(4, "little") + bytes([mask, 0, 0, 0])
+    return bytes([kind, thread, partition, priority]) + (stamp % 2**32).to_bytes(4, "little") + bytes([mask, policy, 0, 0])
 
 
 def split(data):
@@ -63,10 +70,15 @@ def number(word, what):
     return value
 
 
+def without_optional(form):
+    return form[:-len(OPTIONAL)] if form[-len(OPTIONAL):] == OPTIONAL else form
+
+
 def numbers(words, form):
     """The numbers among the words, by name, where the form has a word in capitals; the other words must be the form's."""
-    if len(words) != len(form):
-        raise Mistake("write it as: STAMP " + " ".join(form))
+    short = without_optional(form)
+    if len(words) not in (len(short), len(form)):
+        raise Mistake("write it as: STAMP " + " ".join(short) + (f" [{' '.join(OPTIONAL)}]" if short != form else ""))
     found = {}
     for word, wanted in zip(words, form):
         if wanted.isupper():
@@ -130,6 +142,7 @@ def decode_record(data):
         event = read(data)
         form = FORMS.get(event.kind)
         if form:
+            form = form if event.policy else without_optional(form)
             words = [str(getattr(event, word.lower())) if word.isupper() else word for word in form]
             text = " ".join([str(event.stamp)] + words)
             if encode_line(text) == [data]:

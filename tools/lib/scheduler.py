@@ -1,14 +1,16 @@
-"""Document 01's rules for one core, as plain as they can be said: what an event is refused for, what it charges and changes, and who runs next.
+"""Document 01's rules for one core, with the time slices of document 02, (i), as plain as they can be said: what an event is refused for, what it
+charges and changes, and who runs next.
 
 The tools need this to say why, and what was used. They never answer by it alone: replay.py holds every step to the line of the proved desk.
 """
 from typing import NamedTuple
 
 from lib import records
-from lib.records import BLOCK, CREATE, END, FORMS, PRIORITY, READY, RESUME, TICK
+from lib.records import BLOCK, CREATE, END, FORMS, PRIORITY, READY, RESUME, ROUND_ROBIN, TICK
 from lib.text import count
 
 THREADS = 64
+SLICE = 4
 NOBODY = 255
 IDLE, FREE_TIME, UNDERLOAD, AT_LIMIT = range(4)
 MODES = ("idle", "free time", "underload", "at limit")
@@ -26,9 +28,17 @@ class Decision(NamedTuple):
 
 
 class Thread:
-    """A thread that exists."""
-    def __init__(self, partition, priority, mask):
-        self.partition, self.priority, self.mask, self.ready = partition, priority, mask, False
+    """A thread that exists. Its slice is the ticks that are left of it; a thread that is not round robin has none."""
+    def __init__(self, partition, priority, mask, policy):
+        self.partition, self.priority, self.mask, self.policy, self.ready = partition, priority, mask, policy, False
+        self.refill()
+
+    @property
+    def round_robin(self):
+        return self.policy == ROUND_ROBIN
+
+    def refill(self):
+        self.slice = SLICE if self.round_robin else 0
 
 
 class Standing(NamedTuple):
@@ -118,6 +128,7 @@ class Scheduler:
         self.threads = {}
         self.line = []
         self.running = NOBODY
+        self.ended = None  # the thread whose slice the last accepted event ended
         self.competing = set()
         self.stamp = 0
         self.forget()
@@ -151,7 +162,8 @@ class Scheduler:
     def form_refusal(self, event):
         if event.kind not in FORMS:
             return Refusal(9, f"there is no kind {event.kind} of event")
-        unused = [name for name in ("thread", "partition", "priority", "mask") if name.upper() not in FORMS[event.kind] and getattr(event, name)]
+        unused = [name for name in ("thread", "partition", "priority", "mask", "policy")
+                  if name.upper() not in FORMS[event.kind] and getattr(event, name)]
         if unused or any(event.rest):
             return Refusal(9, f"a {FORMS[event.kind][0]} does not use its byte for {unused[0] if unused else 'later use'}, and that byte is not 0")
         return None
@@ -181,6 +193,8 @@ class Scheduler:
             return Refusal(12, f"the sheet has partitions 0 to {len(self.budgets) - 1}, and not {event.partition}")
         if event.kind == CREATE and event.mask == 0:
             return Refusal(12, "its mask is 0: it could run on no core")
+        if event.kind == CREATE and event.policy > ROUND_ROBIN:
+            return Refusal(12, f"its policy is {event.policy}, and there are two: 0 (first in, first out) and 1 (round robin)")
         return None
 
     def ready_refusal(self, event):
@@ -205,12 +219,15 @@ class Scheduler:
 
     def act(self, event):
         """Step 2: what the kind does."""
+        self.ended = None
         if event.kind == TICK:
             self.next_slot()
+            self.count_down()
         elif event.kind == CREATE:
-            self.threads[event.thread] = Thread(event.partition, event.priority, event.mask)
+            self.threads[event.thread] = Thread(event.partition, event.priority, event.mask, event.policy)
         elif event.kind == READY:
             self.threads[event.thread].ready = True
+            self.threads[event.thread].refill()
             self.line.append(event.thread)
         elif event.kind == BLOCK:
             self.leave(event.thread)
@@ -229,6 +246,19 @@ class Scheduler:
         for partition, row in enumerate(self.rows):
             self.used[partition] -= row[self.slot]
             row[self.slot] = 0
+
+    def count_down(self):
+        """A tick takes a whole step from the slice of the thread that ran until then, if it is round robin. At zero the slice is refilled, and the
+        thread goes to the tail of the line."""
+        thread = self.threads.get(self.running)
+        if thread is None or not thread.round_robin:
+            return
+        thread.slice -= 1
+        if thread.slice == 0:
+            thread.refill()
+            self.line.remove(self.running)
+            self.line.append(self.running)
+            self.ended = self.running
 
     def leave(self, thread):
         self.threads[thread].ready = False

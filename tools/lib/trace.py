@@ -1,7 +1,8 @@
 """A day in the Chrome trace event format, which Perfetto and chrome://tracing read.
 
 A process for each job, with a track for each of its threads and counters for what it used of the window and what remains; one more process for the
-day itself, with the tick periods, idle time, resumes and refusals. A microsecond of the trace is a cycle of the day.
+day itself, with the tick periods, idle time, resumes and refusals. A microsecond of the trace is a cycle of the day. A slice is here a piece of a
+track, as the format has it; the slice of a round-robin thread is called a time slice, and its end is an instant on the thread's track.
 """
 import json
 
@@ -66,10 +67,11 @@ def events(sheet, lanes, day, names):
     for partition, name in enumerate(names):
         yield from named(process(partition), name)
         yield from counters(lanes, sheet, partition)
-    for (partition, number), lane in sorted(lanes.threads.items()):
-        tid = track(partition, number)
-        yield from named_track(process(partition), tid, f"thread {number}")
-        yield from slices(lane, lanes.end, process(partition), tid, SLICES)
+    for thread, lane in sorted(lanes.threads.items()):
+        yield from named_track(process(thread[0]), track(*thread), lanes.title(thread))
+        yield from slices(lane, lanes.end, process(thread[0]), track(*thread), SLICES)
+    for time, thread in lanes.ends:
+        yield {"ph": "i", "s": "t", "name": "time slice ended", "pid": process(thread[0]), "tid": track(*thread), "ts": time}
     whole = process(len(names))
     yield from named(whole, "the day")
     yield from named_track(whole, PERIODS, "tick periods")

@@ -1,6 +1,6 @@
 """Why this one? The decision after an event, as it was made."""
 from lib.listing import meaning
-from lib.scheduler import AT_LIMIT, FREE_TIME, IDLE, MODES, NAMES, UNDERLOAD, by_budget, by_priority, criteria, mode_of, settled, winner
+from lib.scheduler import AT_LIMIT, FREE_TIME, IDLE, MODES, NAMES, SLICE, UNDERLOAD, by_budget, by_priority, criteria, mode_of, settled, winner
 from lib.text import columns, count, percent
 
 HEADS = ("job", "competing", "top priority", "used", "budget", "remaining", "has budget", "fraction used")
@@ -43,6 +43,25 @@ def choice(scheduler, best):
     return f"thread {chosen[0]} runs: it has priority {best.top}, the highest of its job's ready threads that this core may run{rest}"
 
 
+def slices(step):
+    """The slice that the last accepted event ended, and what is left of the slice of the thread that runs."""
+    scheduler = step.scheduler
+    if scheduler.ended is not None:
+        yield (f"{'this tick' if step.accepted else 'the last accepted tick'} ended the slice of thread {scheduler.ended}, which ran until then: "
+               f"it has a full one again, {SLICE} ticks, and went to the tail of the line")
+    thread = scheduler.threads[scheduler.running]
+    if thread.round_robin:
+        left = f"{thread.slice} of the {SLICE} ticks of its slice {'is' if thread.slice == 1 else 'are'} left"
+        yield f"thread {scheduler.running} is round robin: {left}"
+
+
+def line(scheduler):
+    """The line, and where its order comes from."""
+    turns = any(scheduler.threads[t].round_robin for t in scheduler.line)
+    order = "in order of becoming ready, or of the end of a slice" if turns else "in order of becoming ready"
+    return f"the line, {order}: {', '.join(map(str, scheduler.line))}"
+
+
 def text(step, day, names):
     """The decision that stands after a step. A refused event changes nothing, and so the decision before it stands."""
     scheduler = step.scheduler
@@ -66,4 +85,5 @@ def text(step, day, names):
     if not others:
         yield f"{names[best.partition]} is the only one that competes"
     yield choice(scheduler, best)
-    yield f"the line, in order of becoming ready: {', '.join(map(str, scheduler.line))}"
+    yield from slices(step)
+    yield line(scheduler)
