@@ -21,6 +21,7 @@ pub struct Event {
     pub priority: u8,
     pub stamp: u32,
     pub mask: u8,
+    pub policy: u8,
 }
 
 // Bytes of the first word (kind, thread, partition, priority, low byte
@@ -30,27 +31,27 @@ const ALL_UNUSED: u32 = 0xFFFF_FF00;
 const THREAD_USED: u32 = 0xFFFF_0000;
 const THREAD_AND_PRIORITY_USED: u32 = 0x00FF_0000;
 
-// The same for the last word (mask and three spare bytes).
-const MASK_USED: u32 = 0xFFFF_FF00;
-const MASK_UNUSED: u32 = 0xFFFF_FFFF;
+// The same for the last word (mask, policy and two spare bytes).
+const MASK_AND_POLICY_USED: u32 = 0xFFFF_0000;
+const NONE_USED: u32 = 0xFFFF_FFFF;
 
 impl Event {
     /// Takes a record apart. Refuses unknown kinds and stray bytes.
     #[inline]
     pub fn read(record: &[u8; RECORD]) -> Result<Event, u8> {
-        let [kind, thread, partition, priority, s0, s1, s2, s3, mask, x, y, z] = *record;
+        let [kind, thread, partition, priority, s0, s1, s2, s3, mask, policy, y, z] = *record;
         let (kind, first, last) = match kind {
-            1 => (Kind::Tick, ALL_UNUSED, MASK_UNUSED),
-            2 => (Kind::Create, NOTHING_UNUSED, MASK_USED),
-            3 => (Kind::Ready, THREAD_USED, MASK_UNUSED),
-            4 => (Kind::Block, THREAD_USED, MASK_UNUSED),
-            5 => (Kind::SetPriority, THREAD_AND_PRIORITY_USED, MASK_UNUSED),
-            6 => (Kind::End, THREAD_USED, MASK_UNUSED),
-            7 => (Kind::Resume, ALL_UNUSED, MASK_UNUSED),
+            1 => (Kind::Tick, ALL_UNUSED, NONE_USED),
+            2 => (Kind::Create, NOTHING_UNUSED, MASK_AND_POLICY_USED),
+            3 => (Kind::Ready, THREAD_USED, NONE_USED),
+            4 => (Kind::Block, THREAD_USED, NONE_USED),
+            5 => (Kind::SetPriority, THREAD_AND_PRIORITY_USED, NONE_USED),
+            6 => (Kind::End, THREAD_USED, NONE_USED),
+            7 => (Kind::Resume, ALL_UNUSED, NONE_USED),
             0 | 8..=255 => return Err(refusal::KIND),
         };
         let stray = u32::from_le_bytes([0, thread, partition, priority]) & first
-            | u32::from_le_bytes([mask, x, y, z]) & last;
+            | u32::from_le_bytes([mask, policy, y, z]) & last;
         if stray != 0 {
             return Err(refusal::KIND);
         }
@@ -62,6 +63,7 @@ impl Event {
             priority,
             stamp,
             mask,
+            policy,
         })
     }
 }

@@ -170,6 +170,10 @@ impl Scheduler {
                 Kind::Block => self.threads.block(event.thread)?,
                 Kind::SetPriority => self.threads.set_priority(event.thread, event.priority)?,
                 Kind::End => self.threads.end(event.thread)?,
+                // The thread that ran until the tick, however little of it.
+                Kind::Tick if self.choice.mode != Mode::Idle => {
+                    self.threads.count(self.choice.thread)
+                }
                 Kind::Tick | Kind::Resume => {}
             }
             if self.choice.mode != Mode::Idle {
