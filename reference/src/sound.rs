@@ -107,12 +107,11 @@ fn unfit(state: &State, t: usize) -> Option<Unfit> {
 /// What a state is refused for, if that is a policy or a slice and all else
 /// is sound.
 pub fn refused_for(saved: &Saved) -> Option<Unfit> {
-    let mut all_first_in_first_out = saved.clone();
-    all_first_in_first_out.state.policies = [0; 64];
-    all_first_in_first_out.state.slices = [0; 64];
-    (0..64)
-        .find_map(|t| unfit(&saved.state, t))
-        .filter(|_| refused(&all_first_in_first_out) == 0)
+    let unfit = (0..64).find_map(|t| unfit(&saved.state, t))?;
+    let mut without = saved.clone();
+    without.state.policies = [0; 64];
+    without.state.slices = [0; 64];
+    (refused(&without) == 0).then_some(unfit)
 }
 
 fn sum(numbers: &[u32]) -> u64 {
