@@ -13,6 +13,9 @@ pub enum Kind {
     Resume,
 }
 
+/// What a record says but for a create's policy, which stays in its byte: with
+/// it here the fields no longer move as one, and an event was measured at 31 ns
+/// in place of 22.
 #[derive(Clone, Copy, Debug)]
 pub struct Event {
     pub kind: Kind,
@@ -21,8 +24,10 @@ pub struct Event {
     pub priority: u8,
     pub stamp: u32,
     pub mask: u8,
-    pub policy: u8,
 }
+
+/// Where a create has the thread's policy.
+pub const POLICY: usize = 9;
 
 // Bytes of the first word (kind, thread, partition, priority, low byte
 // first) that have to be zero.
@@ -63,7 +68,6 @@ impl Event {
             priority,
             stamp,
             mask,
-            policy,
         })
     }
 }

@@ -131,19 +131,19 @@ impl Threads {
     }
 
     /// A new thread, not ready, with a full slice if it is round robin.
-    pub fn create(&mut self, event: &Event) -> Result<(), u8> {
+    pub fn create(&mut self, event: &Event, policy: u8) -> Result<(), u8> {
         let t = usize::from(event.thread);
         if t >= THREADS || self.existing & bit(t) != 0 {
             return Err(refusal::THREAD);
         }
-        if event.partition >= self.partitions || event.mask == 0 || event.policy > ROUND_ROBIN {
+        if event.partition >= self.partitions || event.mask == 0 || policy > ROUND_ROBIN {
             return Err(refusal::PARTITION);
         }
         self.existing |= bit(t);
         if event.mask & self.core != 0 {
             self.allowed |= bit(t);
         }
-        if event.policy == ROUND_ROBIN {
+        if policy == ROUND_ROBIN {
             self.in_turns |= bit(t);
         }
         self.table[t] = Thread {
