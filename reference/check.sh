@@ -3,7 +3,7 @@
 # it prints with expected.txt:  check.sh DESK VECTORS
 desk=$(cd "$(dirname "$1")" && pwd)/$(basename "$1")
 good=0 bad=0
-for run in "$2"/[0-9]*; do
+for run in "$2"/*/; do
     if (cd "$run" && "$desk" <events.bin) 2>&1 | cmp -s - "$run/expected.txt"; then
         good=$((good + 1))
     else

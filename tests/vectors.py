@@ -1,12 +1,13 @@
 #!/usr/bin/env python3
 """Has the checker compute the model's definitions on runs of another scheduler.
 
-tests/vectors/NNN has a sheet (shares.txt), events (events.bin) and the lines that a scheduler which shares nothing with the model printed
-for them (expected.txt). For each run this writes a theorem, that the definitions give just these lines, into a crate of its own in a temporary
+tests/vectors/NAME has a sheet (shares.txt), events (events.bin) and the lines that a scheduler which shares nothing with the model printed
+for them (expected.txt); slices-NNN and tells-.. are runs of it with request (i) of document 02, the latter such that a wrong reading, which the name
+tells, prints something else. For each run this writes a theorem, that the definitions give just these lines, into a crate of its own in a temporary
 copy of the repository, and has the checker prove that crate. The theorem tests the state before each event, as the doors do; its proof tests
 a state once, by the theorem `tested-once` of crate invariants, and computes the rest.
 
-    tests/vectors.py [NNN ..]    all runs, or the named ones
+    tests/vectors.py [NAME ..]    all runs, or the named ones
 """
 import shutil
 import subprocess
@@ -20,8 +21,8 @@ VECTORS = ROOT / "tests/vectors"
 # what the computation has to look through: every definition of these files that is not an abbreviation
 OPENED = [
     ("lists", "Lists"), ("units", "Units"), ("sheet", "Limits"), ("sheet", "Records"), ("sheet", "Order"), ("sheet", "Settings"),
-    ("sheet", "Sheet"), ("model", "State"), ("model", "Policy"), ("model", "Event"), ("model", "Step"), ("model", "Answers"),
-    ("invariants", "Once"),
+    ("sheet", "Sheet"), ("model", "State"), ("model", "Slices"), ("model", "Policy"), ("model", "Event"), ("model", "Step"),
+    ("model", "Answers"), ("invariants", "Once"),
 ]
 
 # the crates that they stand on
@@ -96,12 +97,12 @@ def definitions(crate, file):
     return [line.split()[2] for line in text.splitlines() if line.startswith("unfoldable pub")]
 
 
-def theorem(name):
-    folder = VECTORS / name
+def theorem(run):
+    folder, name = VECTORS / run, run.replace("-", "")
     sheet = (folder / "shares.txt").read_bytes() if (folder / "shares.txt").exists() else b""
     events = (folder / "events.bin").read_bytes()
     expected = (folder / "expected.txt").read_bytes()
-    assert len(expected) % 12 == 0, name
+    assert len(expected) % 12 == 0, run
     records = [events[i:i + 12] for i in range(0, len(events), 12)]
     lines = [expected[i:i + 12] for i in range(0, len(expected), 12)]
     opened = " ".join(f"{file}.{d}" for crate, file in OPENED for d in definitions(crate, file))

@@ -17,7 +17,7 @@ LIES(saplingloft_settings, policy, 8);
 LIES(saplingloft_settings, core, 12);
 LIES(saplingloft_settings, count, 16);
 LIES(saplingloft_settings, shares, 20);
-SIZE(saplingloft_state, 552);
+SIZE(saplingloft_state, 680);
 LIES(saplingloft_state, settings, 0);
 LIES(saplingloft_state, used, 84);
 LIES(saplingloft_state, stamp, 148);
@@ -30,7 +30,9 @@ LIES(saplingloft_state, ready, 232);
 LIES(saplingloft_state, partitions, 296);
 LIES(saplingloft_state, priorities, 360);
 LIES(saplingloft_state, masks, 424);
-LIES(saplingloft_state, queue, 488);
+LIES(saplingloft_state, policies, 488);
+LIES(saplingloft_state, slices, 552);
+LIES(saplingloft_state, queue, 616);
 
 static struct saplingloft_state state;
 static uint32_t history[SAPLINGLOFT_HISTORY];
@@ -82,9 +84,21 @@ static struct saplingloft_record of(enum saplingloft_kind kind, int thread, uint
     return (struct saplingloft_record){ .kind = kind, .thread = thread, .stamp = stamp };
 }
 
-static void ticked(uint32_t stamp)
+/* Every second one of the odd numbers and of the even ones is round robin. */
+static int policy_of(int thread)
 {
+    return thread / 2 % 2;
+}
+
+/* A tick, and what it leaves of the slice of the thread that ran until it. */
+static void ticked(uint32_t stamp, int slices[SAPLINGLOFT_THREADS])
+{
+    uint32_t ran = state.running;
     accepted("tick", stamp, of(SAPLINGLOFT_KIND_TICK, 0, stamp));
+    if (policy_of((int)ran) == SAPLINGLOFT_POLICY_ROUND_ROBIN)
+        slices[ran] = slices[ran] == 1 ? SAPLINGLOFT_SLICE : slices[ran] - 1;
+    for (int t = 0; t < 64; t++)
+        same("slices", t, slices[t], state.slices[t]);
 }
 
 /* Every field that the library writes, with a value that no other has. */
@@ -104,10 +118,12 @@ static void written(void)
             same("shares", q, shares[q], state.settings.shares[q]);
     }
     const int shares[16] = { 4, 4, 4, 4, 4, 4, 4, 4, 8, 8, 8, 8, 9, 9, 9, 9 };
+    int slices[SAPLINGLOFT_THREADS];
     start(400, 999900, 1, 3, shares);
     for (int t = 0; t < 64; t++) {
-        struct saplingloft_record create = { SAPLINGLOFT_KIND_CREATE, t, t % 16, 100 + t, 0, (8 + t * 16) % 256 };
+        struct saplingloft_record create = { SAPLINGLOFT_KIND_CREATE, t, t % 16, 100 + t, 0, (8 + t * 16) % 256, policy_of(t) };
         accepted("create", t, create);
+        slices[t] = policy_of(t) == SAPLINGLOFT_POLICY_ROUND_ROBIN ? SAPLINGLOFT_SLICE : 0;
     }
     uint32_t stamp = 0;
     for (int i = 0; i < 32; i++) { /* the odd numbers, out of order */
@@ -128,7 +144,7 @@ static void written(void)
     }
     same("slot", 0, 0, state.slot);
     for (int k = 1; k < 400; k++) {
-        ticked(stamp);
+        ticked(stamp, slices);
         same("slot", k, k, state.slot);
     }
     same("since", 0, 0, state.since);
@@ -138,6 +154,7 @@ static void written(void)
         same("partitions", t, t % 16, state.partitions[t]);
         same("priorities", t, t % 2 ? 150 + t : 100 + t, state.priorities[t]);
         same("masks", t, (8 + t * 16) % 256, state.masks[t]);
+        same("policies", t, policy_of(t), state.policies[t]);
     }
     for (int p = 0; p < 16; p++) {
         struct saplingloft_balance balance = saplingloft_remaining(&state, history, SAPLINGLOFT_HISTORY, p);
@@ -179,10 +196,10 @@ static void read(void)
     for (size_t at = 0; at < sizeof state; at++) {
         bool anything = (at >= 148 && at < 152) || (at >= 360 && at < 424);
         bool something = at == 8 || at == 12 || at == 152 || at == 153 || (at >= 156 && at < 159);
-        bool partition = at >= 296 && at < 360, mask = at >= 424 && at < 488;
+        bool partition = at >= 296 && at < 360, mask = at >= 424 && at < 488, slice = at >= 552 && at < 616;
         struct saplingloft_state changed = state;
         uint8_t *byte = (uint8_t *)&changed + at;
-        *byte = partition ? 16 : mask ? 0 : *byte ^ 1;
+        *byte = partition ? 16 : mask ? 0 : slice ? SAPLINGLOFT_SLICE + 1 : *byte ^ 1;
         enum saplingloft_refusal refusal = verdict(&changed);
         if (!something)
             same("the refusal for a changed byte", at, anything ? 0 : 8, refusal);
@@ -226,7 +243,7 @@ static void many(void)
     struct saplingloft_progress refused = saplingloft_run(&state, history, 3, ticks, sizeof ticks, (uint8_t[36]){ 0 }, 36);
     same("run: refusal", 100, SAPLINGLOFT_REFUSED_BUFFER, refused.refusal);
     same("run: taken", 100, 0, refused.taken);
-    accepted("create", 0, (struct saplingloft_record){ SAPLINGLOFT_KIND_CREATE, 0, 0, 0, 0, 1 });
+    accepted("create", 0, (struct saplingloft_record){ SAPLINGLOFT_KIND_CREATE, 0, 0, 0, 0, 1, 0 });
     accepted("ready", 0, of(SAPLINGLOFT_KIND_READY, 0, 0));
     accepted("block", 0, of(SAPLINGLOFT_KIND_BLOCK, 0, 5));
     same("an overrun", 0, -5, saplingloft_remaining(&state, history, 4, 0).remaining);

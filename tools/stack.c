@@ -1,8 +1,9 @@
 /* The stack that each call takes at most, measured by running: bytes below the caller's frame, with the call's arguments and its return address.
  *
  * A call is made on a stack of its own that was painted before, and what is no longer painted afterwards was used; what an empty function uses
- * there is taken off. The states are a small one and one of the largest sheet, under both policies, the events of every kind, accepted and refused.
- * Each call is made once before it is measured, because the first one may have the system's linker look for a function. */
+ * there is taken off. The states are a small one and one of the largest sheet, under both policies of a sheet, with threads of both policies; the
+ * events are of every kind, accepted and refused. Each call is made once before it is measured, because the first one may have the system's linker
+ * look for a function. */
 #define _XOPEN_SOURCE 700 /* ucontext.h */
 #include "saplingloft.h"
 
@@ -82,10 +83,11 @@ static void measure(int number)
 
 /* ---- what is measured */
 
-/* An event as it comes, and in a run before two cut records; then the doors that only look. */
+/* An event as it comes, and in a run before two cut records; then the doors that only look. Three of four threads are created round robin. */
 static void tell(enum saplingloft_kind kind, int thread, int partition, int priority, uint32_t stamp, int mask)
 {
-    struct saplingloft_record record = { kind, thread, partition, priority, stamp, mask };
+    int policy = kind == SAPLINGLOFT_KIND_CREATE && thread % 4 != 1 ? SAPLINGLOFT_POLICY_ROUND_ROBIN : SAPLINGLOFT_POLICY_FIRST_IN_FIRST_OUT;
+    struct saplingloft_record record = { kind, thread, partition, priority, stamp, mask, policy };
     memset(events, 0, sizeof events);
     saplingloft_encode(&record, events);
     event_length = SAPLINGLOFT_RECORD;
@@ -135,6 +137,8 @@ static void scenario(int partitions, int threads, int window, int policy)
         tell(SAPLINGLOFT_KIND_TICK, 0, 0, 0, stamp + 3000, 0);  /* 10 */
         tell(SAPLINGLOFT_KIND_TICK, 1, 0, 0, stamp, 0);         /* 9 */
     }
+    for (int i = 0; i < SAPLINGLOFT_SLICE; i++)                 /* a slice ends */
+        tell(SAPLINGLOFT_KIND_TICK, 0, 0, 0, stamp += 500, 0);
     for (size_t at = 0; at < sizeof state; at += 4)
         damaged((uint8_t *)&state + at);
     for (size_t at = 0; at < history_length; at += history_length / 16 + 1)

@@ -1,69 +1,151 @@
-//! The proved scheduler as it was at commit c0127a0, for the benchmark: its
-//! state goes by value through each call. Only what single events need.
+//! The proved library as it was before time slices, for the benchmark: its
+//! state has neither policies nor slices. tools/bench gives its functions
+//! these names, so that one program has both libraries.
 
-use reference::RECORD;
+type Five = [u32; 5];
+type Words = [u32; 16];
+type Bytes = [u8; 64];
 
-/// The state of that time, whatever it holds.
-type State = [u32; 135];
-
+/// The state of 552 bytes, part by part.
 #[repr(C)]
-struct Opening {
-    refusal: u8,
-    state: State,
+#[derive(Clone, Copy)]
+pub struct State {
+    settings: Five,
+    shares: Words,
+    used: Words,
+    clock: Five,
+    exists: Bytes,
+    ready: Bytes,
+    partitions: Bytes,
+    priorities: Bytes,
+    masks: Bytes,
+    queue: Bytes,
 }
 
-#[repr(C)]
-struct Reply {
-    numbers: [u8; 4],
-    state: State,
-}
-
-/// By value as C passes a struct; an array it would not.
-#[repr(C)]
-struct Given(State);
+const _: () = assert!(size_of::<State>() == 552);
 
 extern "C" {
-    fn sapling_start(sheet: *const u8, n: usize, history: *mut u32, m: usize) -> Opening;
-    fn sapling_event(
-        state: Given,
+    fn before_lent_start(
+        sheet: *const u8,
+        sheet_length: u64,
+        settings: &mut Five,
+        shares: &mut Words,
+        used: &mut Words,
+        clock: &mut Five,
+        exists: &mut Bytes,
+        ready: &mut Bytes,
+        partitions: &mut Bytes,
+        priorities: &mut Bytes,
+        masks: &mut Bytes,
+        queue: &mut Bytes,
         history: *mut u32,
-        m: usize,
+        history_length: u64,
+    ) -> u32;
+    fn before_lent_event(
+        settings: &Five,
+        shares: &Words,
+        used: &mut Words,
+        clock: &mut Five,
+        exists: &mut Bytes,
+        ready: &mut Bytes,
+        partitions: &mut Bytes,
+        priorities: &mut Bytes,
+        masks: &mut Bytes,
+        queue: &mut Bytes,
+        history: *mut u32,
+        history_length: u64,
         event: *const u8,
-        n: usize,
-    ) -> Reply;
+        event_length: u64,
+    ) -> u32;
+    fn before_lent_run(
+        settings: &Five,
+        shares: &Words,
+        used: &mut Words,
+        clock: &mut Five,
+        exists: &mut Bytes,
+        ready: &mut Bytes,
+        partitions: &mut Bytes,
+        priorities: &mut Bytes,
+        masks: &mut Bytes,
+        queue: &mut Bytes,
+        history: *mut u32,
+        history_length: u64,
+        events: *const u8,
+        events_length: u64,
+        lines: *mut u8,
+        lines_length: u64,
+    ) -> u32;
 }
 
-/// A point that batches start from.
-#[derive(Clone)]
-pub struct Point {
-    state: State,
-    history: Vec<u32>,
-}
-
-impl Point {
-    /// After some events, whose lines have to be these.
-    pub fn new(sheet: &[u8], lead: &[u8], rows: usize, lines: &[u8]) -> Point {
-        let mut history = vec![0; rows];
-        let opening =
-            unsafe { sapling_start(sheet.as_ptr(), sheet.len(), history.as_mut_ptr(), rows) };
-        assert!(opening.refusal == 0);
-        let mut point = Point {
-            state: opening.state,
-            history,
+impl State {
+    /// A fresh start; the refusal, or 0.
+    pub fn start(sheet: &[u8], history: &mut [u32]) -> (State, u32) {
+        // Numbers only: zeros are a state.
+        let mut state: State = unsafe { std::mem::zeroed() };
+        let refusal = unsafe {
+            before_lent_start(
+                sheet.as_ptr(),
+                sheet.len() as u64,
+                &mut state.settings,
+                &mut state.shares,
+                &mut state.used,
+                &mut state.clock,
+                &mut state.exists,
+                &mut state.ready,
+                &mut state.partitions,
+                &mut state.priorities,
+                &mut state.masks,
+                &mut state.queue,
+                history.as_mut_ptr(),
+                history.len() as u64,
+            )
         };
-        for (event, line) in lead.chunks(RECORD).zip(lines.chunks(RECORD)) {
-            let [refusal, mode, partition, thread] = point.event(event);
-            let text = format!("{refusal:02} {mode} {partition:02} {thread:03}\n");
-            assert!(text.as_bytes() == line);
-        }
-        point
+        (state, refusal)
     }
 
-    pub fn event(&mut self, event: &[u8]) -> [u8; 4] {
-        let Point { state, history } = self;
-        let (rows, m) = (history.as_mut_ptr(), history.len());
-        let reply = unsafe { sapling_event(Given(*state), rows, m, event.as_ptr(), event.len()) };
-        *state = reply.state;
-        reply.numbers
+    /// The four numbers of the answer, a byte each.
+    pub fn event(&mut self, history: &mut [u32], event: &[u8]) -> u32 {
+        unsafe {
+            before_lent_event(
+                &self.settings,
+                &self.shares,
+                &mut self.used,
+                &mut self.clock,
+                &mut self.exists,
+                &mut self.ready,
+                &mut self.partitions,
+                &mut self.priorities,
+                &mut self.masks,
+                &mut self.queue,
+                history.as_mut_ptr(),
+                history.len() as u64,
+                event.as_ptr(),
+                event.len() as u64,
+            )
+        }
+    }
+
+    /// The refusal, or 0.
+    pub fn run(&mut self, history: &mut [u32], events: &[u8], lines: &mut [u8]) -> u32 {
+        unsafe {
+            before_lent_run(
+                &self.settings,
+                &self.shares,
+                &mut self.used,
+                &mut self.clock,
+                &mut self.exists,
+                &mut self.ready,
+                &mut self.partitions,
+                &mut self.priorities,
+                &mut self.masks,
+                &mut self.queue,
+                history.as_mut_ptr(),
+                history.len() as u64,
+                events.as_ptr(),
+                events.len() as u64,
+                lines.as_mut_ptr(),
+                lines.len() as u64,
+            )
+        }
     }
 }

@@ -9,172 +9,52 @@
 //! Both start a batch from the same point, after two windows. What is timed
 //! is the call, or the calls: one `run` over all records, or an `event` for
 //! each. All rows take their turns, a few batches at a time, so that a slow
-//! while of the machine falls on all of them.
+//! while of the machine falls on all of them. The threads are first in, first
+//! out; a table at the end has some rows again with round-robin threads.
 //!
-//! Built with `--cfg against` it links an archive of commit c0127a0 too, and
-//! takes its single events in turns with the others.
+//! Built with `--cfg against` it links the library of the commit before too,
+//! and takes its runs and single events in turns with the others.
 
+mod batches;
 #[cfg(against)]
 mod before;
+mod measured;
 mod proved;
 
-use reference::{Line, Scheduler, RECORD};
-use std::hint::black_box;
-use std::time::{Duration, Instant};
+use batches::{Point, Stream, EVENTS, RUN};
+#[cfg(against)]
+use measured::Before;
+use measured::{Proved, Timed};
+use reference::{Scheduler, RECORD, ROUND_ROBIN};
 
-const TICK: u32 = 1000;
-/// Events of a batch through `run`, and through single events.
-const RUN: usize = 2048;
-const EVENTS: usize = 256;
-
-// The reference behind the same kind of boundary as the proved one: a C
-// function, pointers, lengths and a number for an answer.
-
-#[inline(never)]
-extern "C" fn reference_run(
-    scheduler: &mut Scheduler,
-    events: *const u8,
-    n: usize,
-    lines: *mut u8,
-    room: usize,
-) -> usize {
-    let events = unsafe { std::slice::from_raw_parts(events, n) };
-    let lines = unsafe { std::slice::from_raw_parts_mut(lines, room) };
-    scheduler.run(events, lines)
-}
-
-#[inline(never)]
-extern "C" fn reference_event(scheduler: &mut Scheduler, event: *const u8, n: usize) -> u32 {
-    let Line {
-        refusal,
-        mode,
-        partition,
-        thread,
-    } = scheduler.event(unsafe { std::slice::from_raw_parts(event, n) });
-    u32::from_le_bytes([refusal, mode, partition, thread])
-}
-
-/// A sheet, and the events up to the point that batches start from.
-struct Stream {
-    sheet: Vec<u8>,
-    lead: Vec<u8>,
-    batch: Vec<u8>,
-}
-
-fn stream(partitions: u8, threads: u8, window: u32) -> Stream {
-    let mut sheet = format!("W 00 {window:06}\nC 00 {TICK:06}\nP 00 000000\nM 00 000000\n");
-    let mut left = 100;
-    for p in 0..partitions {
-        let share = left / u32::from(partitions - p);
-        left -= share;
-        sheet += &format!("S {p:02} {share:06}\n");
-    }
-    let mut lead = Vec::new();
-    for t in 0..threads {
-        // A few levels, so that there are ties.
-        put(&mut lead, [2, t, t % partitions, 10 + t % 5], 0, 1);
-        put(&mut lead, [3, t, 0, 0], 0, 0);
-    }
-    let mut stamp = 0;
-    let mut turn = 0;
-    let mut turns = |events: &mut Vec<u8>, many: usize| {
-        for _ in 0..many {
-            let t = (turn / 4 % usize::from(threads)) as u8;
-            let record = match turn % 4 {
-                0 => [1, 0, 0, 0],
-                1 => [4, t, 0, 0],
-                2 => [3, t, 0, 0],
-                _ => [5, t, 0, 10 + (turn / 4 * 7 % 5) as u8],
-            };
-            stamp += TICK / 4;
-            put(events, record, stamp, 0);
-            turn += 1;
-        }
-    };
-    turns(&mut lead, 8 * window as usize + 4);
-    let mut batch = Vec::new();
-    turns(&mut batch, RUN);
-    Stream {
-        sheet: sheet.into_bytes(),
-        lead,
-        batch,
-    }
-}
-
-fn put(events: &mut Vec<u8>, fields: [u8; 4], stamp: u32, mask: u8) {
-    events.extend(fields);
-    events.extend(stamp.to_le_bytes());
-    events.extend([mask, 0, 0, 0]);
-}
-
-/// The best times of a batch, proved and reference.
-struct Best(Duration, Duration);
-
-const NONE: Best = Best(Duration::MAX, Duration::MAX);
-
-impl Best {
-    /// Nanoseconds an event.
-    fn each(&self, events: usize) -> (f64, f64) {
-        (each(self.0, events), each(self.1, events))
-    }
-}
-
-fn each(time: Duration, events: usize) -> f64 {
-    time.as_nanos() as f64 / events as f64
-}
-
-fn timed<T>(best: &mut Duration, work: impl FnOnce() -> T) -> T {
-    let begin = Instant::now();
-    let done = black_box(work());
-    *best = (*best).min(begin.elapsed());
-    done
-}
-
-/// A row: the point that its batches start from, in both schedulers, and the
-/// best times so far.
+/// A point and each scheduler's best times there.
 struct Row {
-    partitions: u8,
-    threads: u8,
-    window: u32,
+    point: Point,
     batch: Vec<u8>,
-    state: proved::State,
-    history: Vec<u32>,
-    scheduler: Scheduler,
-    run: Best,
-    event: Best,
+    /// Of a hundred ticks, those that end a slice.
+    ends: f64,
+    proved: Timed<Proved>,
+    second: Timed<Scheduler>,
     #[cfg(against)]
-    before: (before::Point, Duration),
+    before: Option<Timed<Before>>,
 }
 
 impl Row {
-    fn new((partitions, threads, window): (u8, u8, u32)) -> Row {
-        let Stream { sheet, lead, batch } = stream(partitions, threads, window);
-        let mut lines = vec![0; lead.len()];
-        let mut other = lines.clone();
-        let mut history = vec![0; usize::from(partitions) * window as usize];
-        let mut state = proved::State::filled(0);
-        assert!(proved::start(&sheet, &mut state.parts(), &mut history) == 0);
-        assert!(proved::run(&mut state.parts(), &mut history, &lead, &mut lines) == 0);
-        let Ok(mut scheduler) = Scheduler::start(&sheet) else {
-            panic!("the sheet is refused");
-        };
-        scheduler.run(&lead, &mut other);
-        assert!(lines == other && lines.chunks(RECORD).all(|line| line[..2] == *b"00"));
+    fn new(point: Point) -> Row {
+        let stream = Stream::new(point);
+        let lines = stream.lines();
+        let rows = usize::from(point.partitions) * point.window as usize;
+        let Stream { sheet, lead, .. } = &stream;
+        let second: Timed<Scheduler> = Timed::new(sheet, rows, lead, &lines);
         Row {
-            partitions,
-            threads,
-            window,
+            point,
+            ends: stream.ends(second.point.clone()),
+            proved: Timed::new(sheet, rows, lead, &lines),
+            second,
+            // It knows first in, first out alone.
             #[cfg(against)]
-            before: (
-                before::Point::new(&sheet, &lead, history.len(), &lines),
-                Duration::MAX,
-            ),
-            batch,
-            state,
-            history,
-            scheduler,
-            run: NONE,
-            event: NONE,
+            before: (point.policy == 0).then(|| Timed::new(sheet, rows, lead, &lines)),
+            batch: stream.batch,
         }
     }
 
@@ -182,157 +62,196 @@ impl Row {
     fn measure(&mut self, batches: usize) {
         let mut lines = vec![0; self.batch.len()];
         let mut other = lines.clone();
-        let mut history = self.history.clone();
         let singles = &self.batch[..EVENTS * RECORD];
         for _ in 0..batches {
-            history.copy_from_slice(&self.history);
-            let mut state = self.state;
-            let refusal = timed(&mut self.run.0, || {
-                proved::run(&mut state.parts(), &mut history, &self.batch, &mut lines)
-            });
-            assert!(refusal == 0);
-            let mut scheduler = self.scheduler.clone();
-            timed(&mut self.run.1, || {
-                reference_run(
-                    &mut scheduler,
-                    self.batch.as_ptr(),
-                    self.batch.len(),
-                    other.as_mut_ptr(),
-                    other.len(),
-                )
-            });
+            self.proved.run(&self.batch, &mut lines);
+            self.second.run(&self.batch, &mut other);
             assert!(lines == other);
-
-            history.copy_from_slice(&self.history);
-            let mut state = self.state;
-            timed(&mut self.event.0, || {
-                for event in singles.chunks_exact(RECORD) {
-                    black_box(proved::event(&mut state.parts(), &mut history, event));
-                }
-            });
-            let mut scheduler = self.scheduler.clone();
-            timed(&mut self.event.1, || {
-                for event in singles.chunks_exact(RECORD) {
-                    black_box(reference_event(&mut scheduler, event.as_ptr(), event.len()));
-                }
-            });
+            self.proved.events(singles);
+            self.second.events(singles);
             #[cfg(against)]
-            {
-                let (point, best) = &mut self.before;
-                let mut point = point.clone();
-                timed(best, || {
-                    for event in singles.chunks_exact(RECORD) {
-                        black_box(point.event(event));
-                    }
-                });
+            if let Some(before) = &mut self.before {
+                before.run(&self.batch, &mut other);
+                assert!(lines == other);
+                before.events(singles);
             }
         }
     }
 
-    fn print(&self) {
-        let (run, event) = (self.run.each(RUN), self.event.each(EVENTS));
+    /// Nanoseconds an event, through `run` and through `event`.
+    fn proved(&self) -> (f64, f64) {
+        self.proved.each(RUN, EVENTS)
+    }
+
+    fn second(&self) -> (f64, f64) {
+        self.second.each(RUN, EVENTS)
+    }
+
+    /// The row's first columns.
+    fn name(&self) -> String {
+        let Point {
+            partitions,
+            threads,
+            window,
+            ..
+        } = self.point;
+        format!("| {partitions} | {threads} | {window} |")
+    }
+}
+
+/// A table's head.
+fn head(columns: &str) {
+    println!();
+    println!("{columns}");
+    println!("{}", "|---".repeat(columns.matches('|').count() - 1) + "|");
+}
+
+/// Prints millions of events a second, and the proved scheduler's as a part of
+/// the reference's.
+fn beside_the_reference(rows: &[Row]) {
+    println!(
+        "Millions of events a second, and the proved scheduler's as a part of the reference's:"
+    );
+    head("| partitions | ready threads | W | run: proved | reference | ratio | event: proved | reference | ratio |");
+    for row in rows {
+        let ((run, event), (other_run, other_event)) = (row.proved(), row.second());
         println!(
-            "| {} | {} | {} | {:.1} | {:.1} | {:.2} | {:.2} | {:.1} | {:.3} |",
-            self.partitions,
-            self.threads,
-            self.window,
-            1000.0 / run.0,
-            1000.0 / run.1,
-            run.1 / run.0,
-            1000.0 / event.0,
-            1000.0 / event.1,
-            event.1 / event.0,
+            "{} {:.1} | {:.1} | {:.2} | {:.2} | {:.1} | {:.3} |",
+            row.name(),
+            1000.0 / run,
+            1000.0 / other_run,
+            other_run / run,
+            1000.0 / event,
+            1000.0 / other_event,
+            other_event / event,
         );
     }
 }
 
-/// Prints the time of a single event beside what it took at c0127a0.
+/// Prints how fast the proved scheduler is as a part of what it was at the
+/// commit before, and the least of each column.
 #[cfg(against)]
-fn against(rows: &[Row]) {
+fn beside_the_commit_before<'a>(rows: impl Iterator<Item = &'a Row>) {
     println!();
-    println!("Nanoseconds of a single event, and at commit c0127a0:");
-    println!();
-    println!("| partitions | ready threads | W | event | at c0127a0 | part of it |");
-    println!("|---|---|---|---|---|---|");
+    println!("Nanoseconds an event, now and at the commit before, and the speed now as a part of the speed before:");
+    head("| partitions | ready threads | W | run: now | before | ratio | event: now | before | ratio |");
+    let mut least = [(f64::MAX, String::new()), (f64::MAX, String::new())];
     for row in rows {
-        let (now, then) = (row.event.each(EVENTS).0, each(row.before.1, EVENTS));
+        let Some(before) = &row.before else {
+            continue;
+        };
+        let ((run, event), (old_run, old_event)) = (row.proved(), before.each(RUN, EVENTS));
+        let ratios = [old_run / run, old_event / event];
         println!(
-            "| {} | {} | {} | {now:.0} | {then:.0} | {:.2} |",
-            row.partitions,
-            row.threads,
-            row.window,
-            now / then
+            "{} {run:.1} | {old_run:.1} | {:.2} | {event:.0} | {old_event:.0} | {:.2} |",
+            row.name(),
+            ratios[0],
+            ratios[1]
         );
+        for (least, ratio) in least.iter_mut().zip(ratios) {
+            if ratio < least.0 {
+                *least = (ratio, row.name());
+            }
+        }
+    }
+    println!();
+    for (what, (ratio, name)) in ["run", "event"].iter().zip(least) {
+        println!("The least ratio of {what} is {ratio:.3}, at {name}.");
     }
 }
 
 /// Prints how the time of an event grows with one thing.
-fn grows(what: &str, rows: &[Row], number: impl Fn(&Row) -> u32) {
-    println!();
-    println!("| {what} | run, ns | event, ns | reference run, ns |");
-    println!("|---|---|---|---|");
+fn grows(what: &str, rows: &[Row], number: impl Fn(&Point) -> u32) {
+    head(&format!(
+        "| {what} | run, ns | event, ns | reference run, ns |"
+    ));
     for row in rows {
-        let (run, event) = (row.run.each(RUN), row.event.each(EVENTS));
+        let ((run, event), (other_run, _)) = (row.proved(), row.second());
+        let number = number(&row.point);
+        println!("| {number} | {run:.0} | {event:.0} | {other_run:.0} |");
+    }
+}
+
+/// Prints rows with round-robin threads beside those with the same numbers
+/// whose threads are first in, first out.
+fn in_turns(rows: &[Row], others: &[Row]) {
+    println!();
+    println!("Nanoseconds an event where all threads are round robin, beside the same where they are first in, first out:");
+    head("| partitions | ready threads | W | of 100 ticks end a slice | run | first in | event | first in | reference run | first in |");
+    for row in rows {
+        let point = Point {
+            policy: 0,
+            ..row.point
+        };
+        let Some(other) = others.iter().find(|other| other.point == point) else {
+            continue;
+        };
+        let ((run, event), (other_run, other_event)) = (row.proved(), other.proved());
         println!(
-            "| {} | {:.0} | {:.0} | {:.0} |",
-            number(row),
-            run.0,
-            event.0,
-            run.1
+            "{} {:.0} | {run:.1} | {other_run:.1} | {event:.0} | {other_event:.0} | {:.1} | {:.1} |",
+            row.name(),
+            row.ends,
+            row.second().0,
+            other.second().0
         );
     }
+}
+
+/// The rows of one table.
+fn rows(points: impl IntoIterator<Item = (u8, u8, u32)>, policy: u8) -> Vec<Row> {
+    let point = |(partitions, threads, window)| Point {
+        partitions,
+        threads,
+        window,
+        policy,
+    };
+    points.into_iter().map(point).map(Row::new).collect()
+}
+
+/// Every number of partitions with every number of threads and every window.
+fn all() -> Vec<(u8, u8, u32)> {
+    let threads = |partitions| [1, 8, 64].map(|threads| (partitions, threads));
+    let windows = |(partitions, threads)| [4, 100, 400].map(|window| (partitions, threads, window));
+    [1, 4, 16]
+        .into_iter()
+        .flat_map(threads)
+        .flat_map(windows)
+        .collect()
 }
 
 fn main() {
     let rounds: usize = std::env::args().nth(1).map_or(300, |word| {
         word.parse().expect("bench [rounds]: a whole number")
     });
-    let mut points = Vec::new();
-    for partitions in [1, 4, 16] {
-        for threads in [1, 8, 64] {
-            for window in [4, 100, 400] {
-                points.push((partitions, threads, window));
-            }
-        }
-    }
-    let table = points.len();
-    points.extend([1, 2, 4, 8, 16, 32, 64].map(|threads| (4, threads, 100)));
-    let threads = points.len();
-    points.extend([1, 2, 4, 8, 16].map(|partitions| (partitions, 16, 100)));
-    let partitions = points.len();
-    points.extend([4, 25, 50, 100, 200, 400].map(|window| (4, 16, window)));
-
-    let mut rows: Vec<Row> = points.into_iter().map(Row::new).collect();
+    let mut tables = [
+        rows(all(), 0),
+        rows([1, 2, 4, 8, 16, 32, 64].map(|threads| (4, threads, 100)), 0),
+        rows([1, 2, 4, 8, 16].map(|partitions| (partitions, 16, 100)), 0),
+        rows([4, 25, 50, 100, 200, 400].map(|window| (4, 16, window)), 0),
+        rows(
+            all().into_iter().filter(|point| point.2 == 100),
+            ROUND_ROBIN,
+        ),
+    ];
     for _ in 0..rounds.div_ceil(10) {
-        for row in &mut rows {
+        for row in tables.iter_mut().flatten() {
             row.measure(10);
         }
     }
-
-    println!(
-        "Millions of events a second, and the proved scheduler's as a part of the reference's:"
-    );
-    println!();
-    println!("| partitions | ready threads | W | run: proved | reference | ratio | event: proved | reference | ratio |");
-    println!("|---|---|---|---|---|---|---|---|---|");
-    for row in &rows[..table] {
-        row.print();
-    }
+    let [table, threads, partitions, windows, turns] = &tables;
+    beside_the_reference(table);
     #[cfg(against)]
-    against(&rows[..table]);
+    beside_the_commit_before(tables.iter().flatten());
     println!();
     println!("Nanoseconds an event, as one thing grows:");
-    grows(
-        "threads (4 partitions, W 100)",
-        &rows[table..threads],
-        |row| row.threads.into(),
-    );
-    grows(
-        "partitions (16 threads, W 100)",
-        &rows[threads..partitions],
-        |row| row.partitions.into(),
-    );
-    grows("W (4 partitions, 16 threads)", &rows[partitions..], |row| {
-        row.window
+    grows("threads (4 partitions, W 100)", threads, |point| {
+        point.threads.into()
     });
+    grows("partitions (16 threads, W 100)", partitions, |point| {
+        point.partitions.into()
+    });
+    grows("W (4 partitions, 16 threads)", windows, |point| {
+        point.window
+    });
+    in_turns(turns, table);
 }

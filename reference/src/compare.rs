@@ -98,6 +98,9 @@ struct Counts {
     written: u64,
     refused: u64,
     sound: u64,
+    /// Refused for a policy, a slice, or one of them in an absent thread, and
+    /// for nothing else.
+    unfit: [u64; 3],
     flags: u64,
     thorough: u64,
 }
@@ -389,12 +392,15 @@ impl Comparison {
         self.reach.refusals[usize::from(refusal)] += u64::from(refusal != 0);
         self.counts.refused += u64::from(refusal != 0);
         self.counts.sound += u64::from(refusal == 0);
+        if let Some(unfit) = sound::refused_for(given) {
+            self.counts.unfit[unfit as usize] += 1;
+        }
         Ok(())
     }
 
     /// Each byte of a state and of its history with other values: all of
-    /// them for a few states, where flags that are neither 0 nor 1 have to be
-    /// refused with 8, and some for more states.
+    /// them for a few states, where flags and policies that are neither 0 nor 1
+    /// have to be refused with 8, and some for more states.
     fn each_byte(&mut self, saved: &Saved, some: bool) -> Checked {
         let all = self.counts.thorough < THOROUGH
             && saved.history.len() <= SHORT
@@ -417,10 +423,11 @@ impl Comparison {
                     Some(place) => damage::byte(&mut changed.history, place),
                 };
                 *byte ^= by;
-                let odd = *byte > 1 && damage::FLAGS.contains(&place);
+                let two_values = [damage::FLAGS, damage::POLICIES];
+                let odd = *byte > 1 && two_values.iter().any(|range| range.contains(&place));
                 if odd {
                     let refusal = sound::refused(&changed);
-                    same("a flag that is neither 0 nor 1", &8, &refusal)?;
+                    same("a flag or a policy that is neither 0 nor 1", &8, &refusal)?;
                     self.counts.flags += 1;
                 }
                 self.on_any_state(&changed, &tick)
@@ -529,12 +536,21 @@ fn compare(many: u64, first: u64) -> Result<(), ExitCode> {
         counts.records, counts.written
     );
     println!(
-        "states changed on purpose: {} refused, {} still sound; {} with each byte at all other values, flags at other values than 0 and 1: {}",
+        "states changed on purpose: {} refused, {} still sound; {} with each byte at all other values, flags and policies at other values than 0 and 1: {}",
         counts.refused, counts.sound, counts.thorough, counts.flags
     );
-    let complete = reach.complete() && reach.refusals.iter().all(|&count| count > 0);
+    let [policy, slice, absent] = counts.unfit;
+    println!(
+        "refused for a policy alone: {policy}, a slice alone: {slice}, one of them in an absent thread: {absent}"
+    );
+    let complete = reach.complete()
+        && reach
+            .refusals
+            .iter()
+            .chain(&counts.unfit)
+            .all(|&count| count > 0);
     if !complete {
-        println!("compare: some refusal or mode was not reached");
+        println!("compare: some refusal, mode or cause was not reached");
         return Err(ExitCode::FAILURE);
     }
     println!(

@@ -1,12 +1,13 @@
 //! States and settings with something changed, mostly one thing by little.
 
-use crate::proved::Settings;
+use crate::proved::{Settings, State};
 use crate::states::Saved;
 use reference::streams::Random;
 use std::ops::Range;
 
-/// Where a state's flags stand, `exists` and `ready`.
+/// Where a state's flags stand, `exists` and `ready`, and its policies.
 pub const FLAGS: Range<usize> = 168..296;
+pub const POLICIES: Range<usize> = 488..552;
 
 /// Half of what 32 bits hold: twice this is nothing to who adds in 32 bits.
 const HALF: u32 = 1 << 31;
@@ -37,7 +38,7 @@ pub fn saved(random: &mut Random, Saved { state, history }: &mut Saved) {
     let window = state.settings.window as usize;
     let place = random.below(history.len() as u32) as usize;
     let (row, slot) = (place / window, place % window);
-    match random.below(26) {
+    match random.below(32) {
         0..=3 => settings(random, &mut state.settings),
         4 => add(&mut state.used[row], by),
         5 => add(&mut state.stamp, by),
@@ -79,7 +80,38 @@ pub fn saved(random: &mut Random, Saved { state, history }: &mut Saved) {
             state.queued += 1;
             state.ready[t] += u8::from(entry < 64);
         }
+        24..=29 => turns(random, state),
         _ => history.truncate(random.pick(&[history.len() - 1, place])),
+    }
+}
+
+/// A policy or a slice: of a thread that exists, of the running one, or of
+/// one that doesn't exist.
+fn turns(random: &mut Random, state: &mut State) {
+    let which = random.below(4);
+    let exists = u8::from(which != 0);
+    let some = (0..64).fold(0, |set, t| set | u64::from(state.exists[t] == exists) << t);
+    let t = match state.running {
+        running if which == 1 && running < 64 => running as usize,
+        _ => random.bit(some).unwrap_or(0).into(),
+    };
+    let bit = 1 << random.below(8);
+    let (policy, slice) = (&mut state.policies[t], &mut state.slices[t]);
+    match random.below(9) {
+        0 => *policy = random.pick(&[2, 3, 255]),
+        1 => *policy ^= 1,
+        2 => *policy ^= bit,
+        3 => *slice = random.pick(&[0, 5, 255]),
+        4 => *slice = random.pick(&[1, 2, 3, 4]),
+        5 => *slice ^= bit,
+        // Both, so that they fit.
+        6 => (*policy, *slice) = (1, random.pick(&[1, 2, 3, 4])),
+        7 => (*policy, *slice) = (0, 0),
+        // Running, at the last tick of its slice, wherever it stands.
+        _ => {
+            (*policy, *slice) = (1, 1);
+            state.running = t as u32;
+        }
     }
 }
 

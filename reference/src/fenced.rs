@@ -118,6 +118,8 @@ struct StatePages {
     partitions: Pages,
     priorities: Pages,
     masks: Pages,
+    policies: Pages,
+    slices: Pages,
     queue: Pages,
 }
 
@@ -132,6 +134,8 @@ impl StatePages {
             partitions: self.partitions.array(edge),
             priorities: self.priorities.array(edge),
             masks: self.masks.array(edge),
+            policies: self.policies.array(edge),
+            slices: self.slices.array(edge),
             queue: self.queue.array(edge),
         };
         parts.copy_from(&state.parts());
@@ -167,6 +171,8 @@ impl Fenced {
                 partitions: page(),
                 priorities: page(),
                 masks: page(),
+                policies: page(),
+                slices: page(),
                 queue: page(),
             },
             history: Pages::new(room),

@@ -1,5 +1,5 @@
-//! Cases with known lines: the worked run of document 01 and the cases of
-//! its "Both sides of each line" that show in lines.
+//! Cases with known lines: the worked run of document 01, the cases of its
+//! "Both sides of each line" that show in lines, and those of document 02.
 
 use reference::streams::Case;
 
@@ -10,8 +10,8 @@ pub struct Fixed {
     pub lines: &'static str,
 }
 
-/// An event: kind, thread, partition, priority, stamp, mask.
-type Event = (u8, u8, u8, u8, u32, u8);
+/// An event: kind, thread, partition, priority, stamp, mask, policy.
+type Event = (u8, u8, u8, u8, u32, u8, u8);
 
 pub fn sheet(window: u32, tick: u32, policy: u32, core: u32, shares: &[u32]) -> Vec<u8> {
     let mut text = format!("W 00 {window:06}\nC 00 {tick:06}\nP 00 {policy:06}\nM 00 {core:06}\n");
@@ -22,23 +22,28 @@ pub fn sheet(window: u32, tick: u32, policy: u32, core: u32, shares: &[u32]) -> 
 }
 
 pub fn tick(stamp: u32) -> Event {
-    (1, 0, 0, 0, stamp, 0)
+    (1, 0, 0, 0, stamp, 0, 0)
 }
 
 pub fn create(thread: u8, partition: u8, priority: u8, stamp: u32, mask: u8) -> Event {
-    (2, thread, partition, priority, stamp, mask)
+    (2, thread, partition, priority, stamp, mask, 0)
+}
+
+/// A create for this core, with a policy, at the start.
+fn with_policy(policy: u8, thread: u8, partition: u8, priority: u8) -> Event {
+    (2, thread, partition, priority, 0, 1, policy)
 }
 
 pub fn ready(thread: u8, stamp: u32) -> Event {
-    (3, thread, 0, 0, stamp, 0)
+    (3, thread, 0, 0, stamp, 0, 0)
 }
 
 pub fn bytes(events: &[Event]) -> Vec<u8> {
     let mut bytes = Vec::new();
-    for &(kind, thread, partition, priority, stamp, mask) in events {
+    for &(kind, thread, partition, priority, stamp, mask, policy) in events {
         bytes.extend([kind, thread, partition, priority]);
         bytes.extend(stamp.to_le_bytes());
-        bytes.extend([mask, 0, 0, 0]);
+        bytes.extend([mask, policy, 0, 0]);
     }
     bytes
 }
@@ -100,7 +105,7 @@ pub fn cases() -> Vec<Fixed> {
         fixed(
             "a stamp that wraps",
             halves(4, 1000),
-            &[(7, 0, 0, 0, 4_294_967_290, 0), tick(4)],
+            &[(7, 0, 0, 0, 4_294_967_290, 0, 0), tick(4)],
             "00 0 00 255\n00 0 00 255\n",
         ),
         fixed(
@@ -137,6 +142,48 @@ pub fn cases() -> Vec<Fixed> {
             halves(4, 1000),
             &[create(5, 1, 9, 0, 0)],
             "12 0 00 000\n",
+        ),
+        fixed(
+            "policy 2",
+            halves(4, 1000),
+            &[with_policy(2, 5, 1, 9)],
+            "12 0 00 000\n",
+        ),
+        fixed(
+            "two threads of priority 10 take turns",
+            sheet(4, 1000, 0, 0, &[100]),
+            &[
+                with_policy(1, 0, 0, 10),
+                with_policy(1, 1, 0, 10),
+                ready(0, 0),
+                ready(1, 0),
+                tick(1000),
+                tick(2000),
+                tick(3000),
+                tick(4000),
+                tick(5000),
+                tick(6000),
+                tick(7000),
+                tick(8000),
+            ],
+            "00 2 00 000\n00 2 00 000\n00 2 00 000\n00 2 00 000\n00 2 00 000\n\
+             00 2 00 001\n00 2 00 001\n00 2 00 001\n00 2 00 001\n00 2 00 000\n",
+        ),
+        fixed(
+            "the first never lets go",
+            sheet(4, 1000, 0, 0, &[100]),
+            &[
+                with_policy(0, 0, 0, 10),
+                with_policy(1, 1, 0, 10),
+                ready(0, 0),
+                ready(1, 0),
+                tick(1000),
+                tick(2000),
+                tick(3000),
+                tick(4000),
+                tick(5000),
+            ],
+            "00 2 00 000\n00 2 00 000\n00 2 00 000\n00 2 00 000\n00 2 00 000\n",
         ),
     ]
 }

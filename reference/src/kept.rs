@@ -4,12 +4,15 @@
 use crate::counts::Cycles;
 use crate::sheet::Settings;
 
-/// What an existing thread's create and set priority said.
+/// What an existing thread's create and set priority said, and the ticks that
+/// are left of its slice.
 #[derive(Clone, Copy, Debug, PartialEq, Eq)]
 pub struct Record {
     pub partition: u8,
     pub priority: u8,
     pub mask: u8,
+    pub policy: u8,
+    pub slice: u8,
 }
 
 pub trait Kept {

@@ -1,4 +1,5 @@
-//! A partition scheduler for one core, written from document 01 alone.
+//! A partition scheduler for one core, written from document 01, and request
+//! (i) of document 02, alone.
 //!
 //! A share sheet starts it, event records drive it, and each event gives one
 //! line: refusal, mode, partition, thread.
@@ -38,3 +39,8 @@ pub const THREADS: usize = 64;
 pub const RECORD: usize = 12;
 /// The thread number that stands for "nothing runs".
 pub const NO_THREAD: u8 = 255;
+/// The policy of threads of equal priority that take turns. The other one,
+/// 0, is first in, first out.
+pub const ROUND_ROBIN: u8 = 1;
+/// Ticks in a round-robin thread's slice.
+pub const SLICE: u8 = 4;

@@ -6,7 +6,7 @@
 
 use crate::counts::Cycles;
 use crate::kept::{Kept, Record};
-use crate::{Line, Settings, NO_THREAD};
+use crate::{Line, Settings, NO_THREAD, ROUND_ROBIN, SLICE};
 use std::cmp::Ordering;
 
 #[derive(Clone)]
@@ -78,7 +78,7 @@ impl Plain {
         let kind = record[0];
         let used: &[usize] = match kind {
             1 | 7 => &[],
-            2 => &[1, 2, 3, 8],
+            2 => &[1, 2, 3, 8, 9],
             3 | 4 | 6 => &[1],
             5 => &[1, 3],
             _ => return Err(9),
@@ -117,7 +117,8 @@ impl Plain {
             }
         }
         // 12
-        if kind == 2 && (usize::from(record[2]) >= self.budgets.len() || record[8] == 0) {
+        let no_partition = usize::from(record[2]) >= self.budgets.len();
+        if kind == 2 && (no_partition || record[8] == 0 || record[9] > 1) {
             return Err(12);
         }
         // 13
@@ -131,21 +132,21 @@ impl Plain {
         self.since += elapsed;
         self.stamp = stamp;
         match kind {
-            1 => {
-                self.slot = (self.slot + 1) % self.w;
-                for row in &mut self.history {
-                    row[self.slot] = 0;
-                }
-                self.since = 0;
-            }
+            1 => self.tick(),
             2 => {
                 self.threads[t] = Some(Record {
                     partition: record[2],
                     priority: record[3],
                     mask: record[8],
+                    policy: record[9],
+                    slice: full_slice(record[9]),
                 })
             }
-            3 => self.line.push(t),
+            3 => {
+                let thread = self.threads[t].as_mut().unwrap();
+                thread.slice = full_slice(thread.policy);
+                self.line.push(t);
+            }
             4 => self.line.retain(|&other| other != t),
             5 => self.threads[t].as_mut().unwrap().priority = record[3],
             6 => {
@@ -155,6 +156,28 @@ impl Plain {
             _ => unreachable!(),
         }
         Ok(())
+    }
+
+    /// The window moves, and the thread that ran is counted down.
+    fn tick(&mut self) {
+        self.slot = (self.slot + 1) % self.w;
+        for row in &mut self.history {
+            row[self.slot] = 0;
+        }
+        self.since = 0;
+        let Some(t) = self.running else {
+            return;
+        };
+        let thread = self.threads[t].as_mut().unwrap();
+        if thread.policy != ROUND_ROBIN {
+            return;
+        }
+        thread.slice -= 1;
+        if thread.slice == 0 {
+            thread.slice = full_slice(thread.policy);
+            self.line.retain(|&other| other != t);
+            self.line.push(t);
+        }
     }
 
     /// Threads of the line that p may run here, as (number, priority).
@@ -278,6 +301,15 @@ impl Kept for Plain {
 
     fn running(&self) -> u8 {
         self.running.map_or(NO_THREAD, |t| t as u8)
+    }
+}
+
+/// The slice of a thread that has run none of it.
+fn full_slice(policy: u8) -> u8 {
+    if policy == ROUND_ROBIN {
+        SLICE
+    } else {
+        0
     }
 }
 

@@ -31,11 +31,13 @@ pub struct State {
     pub partitions: [u8; 64],
     pub priorities: [u8; 64],
     pub masks: [u8; 64],
+    pub policies: [u8; 64],
+    pub slices: [u8; 64],
     pub queue: [u8; 64],
 }
 
 /// Bytes of a state: it has no padding.
-pub const STATE: usize = 552;
+pub const STATE: usize = 680;
 const _: () = assert!(size_of::<State>() == STATE);
 
 /// Settings as they are lent: in a struct, or each part by itself.
@@ -56,6 +58,8 @@ pub struct Parts<'a> {
     pub partitions: &'a mut [u8; 64],
     pub priorities: &'a mut [u8; 64],
     pub masks: &'a mut [u8; 64],
+    pub policies: &'a mut [u8; 64],
+    pub slices: &'a mut [u8; 64],
     pub queue: &'a mut [u8; 64],
 }
 
@@ -76,6 +80,8 @@ impl Parts<'_> {
         *self.partitions = *other.partitions;
         *self.priorities = *other.priorities;
         *self.masks = *other.masks;
+        *self.policies = *other.policies;
+        *self.slices = *other.slices;
         *self.queue = *other.queue;
     }
 }
@@ -114,6 +120,8 @@ impl State {
                 partitions: &mut (*state).partitions,
                 priorities: &mut (*state).priorities,
                 masks: &mut (*state).masks,
+                policies: &mut (*state).policies,
+                slices: &mut (*state).slices,
                 queue: &mut (*state).queue,
             }
         }
@@ -141,6 +149,8 @@ mod c {
             partitions: &mut Bytes,
             priorities: &mut Bytes,
             masks: &mut Bytes,
+            policies: &mut Bytes,
+            slices: &mut Bytes,
             queue: &mut Bytes,
             history: *mut u32,
             history_length: u64,
@@ -155,6 +165,8 @@ mod c {
             partitions: &mut Bytes,
             priorities: &mut Bytes,
             masks: &mut Bytes,
+            policies: &mut Bytes,
+            slices: &mut Bytes,
             queue: &mut Bytes,
             history: *mut u32,
             history_length: u64,
@@ -171,6 +183,8 @@ mod c {
             partitions: &mut Bytes,
             priorities: &mut Bytes,
             masks: &mut Bytes,
+            policies: &mut Bytes,
+            slices: &mut Bytes,
             queue: &mut Bytes,
             history: *mut u32,
             history_length: u64,
@@ -189,6 +203,8 @@ mod c {
             partitions: &Bytes,
             priorities: &Bytes,
             masks: &Bytes,
+            policies: &Bytes,
+            slices: &Bytes,
             queue: &Bytes,
             history: *const u32,
             history_length: u64,
@@ -203,6 +219,8 @@ mod c {
             partitions: &Bytes,
             priorities: &Bytes,
             masks: &Bytes,
+            policies: &Bytes,
+            slices: &Bytes,
             queue: &Bytes,
             history: *const u32,
             history_length: u64,
@@ -243,6 +261,8 @@ pub fn start(sheet: &[u8], state: &mut Parts, history: &mut [u32]) -> u32 {
             state.partitions,
             state.priorities,
             state.masks,
+            state.policies,
+            state.slices,
             state.queue,
             history.as_mut_ptr(),
             history.len() as u64,
@@ -262,6 +282,8 @@ pub fn event(state: &mut Parts, history: &mut [u32], event: &[u8]) -> Line {
             state.partitions,
             state.priorities,
             state.masks,
+            state.policies,
+            state.slices,
             state.queue,
             history.as_mut_ptr(),
             history.len() as u64,
@@ -284,6 +306,8 @@ pub fn run(state: &mut Parts, history: &mut [u32], events: &[u8], lines: &mut [u
             state.partitions,
             state.priorities,
             state.masks,
+            state.policies,
+            state.slices,
             state.queue,
             history.as_mut_ptr(),
             history.len() as u64,
@@ -307,6 +331,8 @@ pub fn decision(state: &mut Parts, history: &[u32]) -> Line {
             state.partitions,
             state.priorities,
             state.masks,
+            state.policies,
+            state.slices,
             state.queue,
             history.as_ptr(),
             history.len() as u64,
@@ -327,6 +353,8 @@ pub fn remaining(state: &mut Parts, history: &[u32], partition: u32, out: &mut [
             state.partitions,
             state.priorities,
             state.masks,
+            state.policies,
+            state.slices,
             state.queue,
             history.as_ptr(),
             history.len() as u64,

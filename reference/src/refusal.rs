@@ -22,7 +22,8 @@ pub const KIND: u8 = 9;
 pub const ELAPSED: u8 = 10;
 /// The thread number is above 63, taken already, or nobody's.
 pub const THREAD: u8 = 11;
-/// The partition doesn't exist, or the mask names no core.
+/// The partition doesn't exist, the mask names no core, or the policy is
+/// above 1.
 pub const PARTITION: u8 = 12;
 /// A ready thread was made ready, or one that isn't was blocked.
 pub const READINESS: u8 = 13;

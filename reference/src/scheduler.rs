@@ -4,7 +4,7 @@ use crate::accounts::Accounts;
 use crate::counts::{Balance, Cycles};
 use crate::kept::{Kept, Record};
 use crate::line::Line;
-use crate::record::{Event, Kind};
+use crate::record::{Event, Kind, POLICY};
 use crate::sheet::{read_sheet, Settings};
 use crate::threads::Threads;
 use crate::{refusal, NO_THREAD, RECORD};
@@ -152,7 +152,7 @@ impl Scheduler {
 
     #[inline]
     fn take(&mut self, record: &[u8]) -> Result<Choice, u8> {
-        let record = record.try_into().map_err(|_| refusal::EVENT_LENGTH)?;
+        let record: &[u8; RECORD] = record.try_into().map_err(|_| refusal::EVENT_LENGTH)?;
         let event = Event::read(record)?;
         if event.kind == Kind::Resume {
             self.accounts.forget();
@@ -165,11 +165,15 @@ impl Scheduler {
             // The threads come first, because they alone may still refuse.
             // The charge goes by the last choice and doesn't see the change.
             match event.kind {
-                Kind::Create => self.threads.create(&event)?,
+                Kind::Create => self.threads.create(&event, record[POLICY])?,
                 Kind::Ready => self.threads.ready(event.thread)?,
                 Kind::Block => self.threads.block(event.thread)?,
                 Kind::SetPriority => self.threads.set_priority(event.thread, event.priority)?,
                 Kind::End => self.threads.end(event.thread)?,
+                // The thread that ran until the tick, however little of it.
+                Kind::Tick if self.choice.mode != Mode::Idle => {
+                    self.threads.count(self.choice.thread)
+                }
                 Kind::Tick | Kind::Resume => {}
             }
             if self.choice.mode != Mode::Idle {

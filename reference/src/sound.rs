@@ -1,5 +1,5 @@
 //! Whether the doors refuse a state, worked out in the plainest way from
-//! "Sound means" of document 01. The reference has no states that others
+//! "Sound means" of document 01 and request (i) of document 02. The reference has no states that others
 //! may change; this is what the proved doors' answers are compared with.
 
 use crate::proved::{Settings, State};
@@ -75,11 +75,43 @@ fn threads(state: &State) -> bool {
 fn thread(state: &State, t: usize) -> bool {
     let (partition, mask) = (state.partitions[t], state.masks[t]);
     state.ready[t] <= 1
+        && unfit(state, t).is_none()
         && match state.exists[t] {
             0 => [state.ready[t], partition, state.priorities[t], mask] == [0; 4],
             1 => u32::from(partition) < state.settings.count && mask != 0,
             _ => false,
         }
+}
+
+/// What a thread's policy and slice may be wrong by.
+#[derive(Clone, Copy)]
+pub enum Unfit {
+    /// A policy above 1.
+    Policy,
+    /// A round-robin slice that is not 1 to 4, or any other that is not 0.
+    Slice,
+    /// A policy or a slice of a thread that does not exist.
+    Absent,
+}
+
+fn unfit(state: &State, t: usize) -> Option<Unfit> {
+    match (state.exists[t], state.policies[t], state.slices[t]) {
+        (_, 0, 0) => None,
+        (0, ..) => Some(Unfit::Absent),
+        (_, 1, 1..=4) => None,
+        (_, 0..=1, _) => Some(Unfit::Slice),
+        _ => Some(Unfit::Policy),
+    }
+}
+
+/// What a state is refused for, if that is a policy or a slice and all else
+/// is sound.
+pub fn refused_for(saved: &Saved) -> Option<Unfit> {
+    let unfit = (0..64).find_map(|t| unfit(&saved.state, t))?;
+    let mut without = saved.clone();
+    without.state.policies = [0; 64];
+    without.state.slices = [0; 64];
+    (refused(&without) == 0).then_some(unfit)
 }
 
 fn sum(numbers: &[u32]) -> u64 {

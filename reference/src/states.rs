@@ -76,6 +76,8 @@ fn state(kept: &impl Kept) -> State {
         partitions: [0; 64],
         priorities: [0; 64],
         masks: [0; 64],
+        policies: [0; 64],
+        slices: [0; 64],
         queue: [0; 64],
     };
     for p in 0..kept.settings().partitions {
@@ -87,6 +89,8 @@ fn state(kept: &impl Kept) -> State {
             state.partitions[t] = record.partition;
             state.priorities[t] = record.priority;
             state.masks[t] = record.mask;
+            state.policies[t] = record.policy;
+            state.slices[t] = record.slice;
         }
     }
     for (place, t) in kept.line().into_iter().enumerate() {
@@ -113,6 +117,8 @@ pub fn plain(Saved { state, history }: &Saved) -> Plain {
             partition: state.partitions[t],
             priority: state.priorities[t],
             mask: state.masks[t],
+            policy: state.policies[t],
+            slice: state.slices[t],
         });
     }
     plain.line = state.queue[..state.queued as usize]

@@ -10,6 +10,7 @@ mod maker;
 mod random;
 mod report;
 mod sheets;
+mod slices;
 
 pub use random::Random;
 pub use report::{write_event, Reach};

@@ -1,5 +1,5 @@
-//! The worked run, both sides of each line, the slips, and the comparison
-//! with the plain model.
+//! The worked run, both sides of each line, the slips, time slices, and the
+//! comparison with the plain model.
 
 use crate::accounts::Accounts;
 use crate::plain::Plain;
@@ -49,6 +49,12 @@ fn tick(stamp: u32) -> [u8; 12] {
 fn create(t: u8, p: u8, priority: u8, mask: u8, stamp: u32) -> [u8; 12] {
     record(2, t, p, priority, stamp, mask)
 }
+/// A create with byte 9, for a thread that every core may run.
+fn create_with(policy: u8, t: u8, p: u8, priority: u8, stamp: u32) -> [u8; 12] {
+    let mut event = create(t, p, priority, 255, stamp);
+    event[9] = policy;
+    event
+}
 fn ready(t: u8, stamp: u32) -> [u8; 12] {
     record(3, t, 0, 0, stamp, 0)
 }
@@ -72,6 +78,25 @@ fn join(s: &mut Scheduler, t: u8, p: u8, priority: u8) -> (u8, u8, u8) {
     took(s, ready(t, stamp))
 }
 
+/// The same for a round-robin thread.
+fn join_in_turns(s: &mut Scheduler, t: u8, p: u8, priority: u8) -> (u8, u8, u8) {
+    let stamp = s.stamp();
+    took(s, create_with(1, t, p, priority, stamp));
+    took(s, ready(t, stamp))
+}
+
+/// A tick, one period after the last event: who runs after it.
+fn next(s: &mut Scheduler) -> u8 {
+    let stamp = s.stamp().wrapping_add(s.settings().tick.0);
+    took(s, tick(stamp)).2
+}
+
+/// Policy and slice of an existing thread.
+fn turn(s: &Scheduler, t: usize) -> (u8, u8) {
+    let thread = s.thread(t).unwrap();
+    (thread.policy, thread.slice)
+}
+
 /// Mode, partition and thread of an event that has to be accepted.
 fn took(s: &mut Scheduler, event: [u8; 12]) -> (u8, u8, u8) {
     let line = s.event(&event);
@@ -83,11 +108,12 @@ fn took(s: &mut Scheduler, event: [u8; 12]) -> (u8, u8, u8) {
 fn refused(s: &mut Scheduler, event: &[u8]) -> u8 {
     let state = |s: &Scheduler| {
         let accounts: Vec<_> = (0..16).map(|p| s.account(p)).collect();
+        let threads: Vec<_> = (0..64).map(|t| s.thread(t)).collect();
         (
             s.stamp(),
             s.since_tick(),
-            s.existing(),
-            s.ready(),
+            threads,
+            s.line(),
             s.charged(),
             accounts,
             s.decision(),
@@ -468,7 +494,7 @@ fn stray_bytes_and_kinds() {
     }
     let right = [
         (tick(0), &[][..]),
-        (create(9, 1, 1, 1, 0), &[1, 2, 3, 8]),
+        (create(9, 1, 1, 1, 0), &[1, 2, 3, 8, 9]),
         (ready(1, 0), &[1]),
         (block(0, 0), &[1]),
         (set(0, 1, 0), &[1, 3]),
@@ -707,6 +733,180 @@ fn lines() {
     assert_eq!(text(0, 0, 0, 255), "00 0 00 255\n");
     assert_eq!(text(0, 3, 15, 63), "00 3 15 063\n");
     assert_eq!(text(14, 0, 0, 0), "14 0 00 000\n");
+}
+
+// Time slices ---------------------------------------------------------------
+//
+// The words quoted are request (i)'s of document 02.
+
+/// One partition with all of the time.
+fn alone() -> Scheduler {
+    start(4, 1000, 0, 0, &[100])
+}
+
+#[test]
+fn policy_is_byte_9_of_a_create() {
+    // "0 first-in-first-out, 1 round robin"; "policy above 1 gives 12".
+    let mut s = alone();
+    took(&mut s, create_with(0, 0, 0, 10, 0));
+    took(&mut s, create_with(1, 1, 0, 10, 0));
+    assert_eq!((turn(&s, 0), turn(&s, 1)), ((0, 0), (1, 4)));
+    for policy in 2..=255 {
+        assert_eq!(refused(&mut s, &create_with(policy, 2, 0, 10, 0)), 12);
+    }
+    // Each of the reasons for 12 alone, and 9, 10 and 11 before them.
+    assert_eq!(refused(&mut s, &create_with(1, 2, 1, 10, 0)), 12);
+    let mut no_core = create_with(1, 2, 0, 10, 0);
+    no_core[8] = 0;
+    assert_eq!(refused(&mut s, &no_core), 12);
+    assert_eq!(refused(&mut s, &create_with(2, 1, 0, 10, 0)), 11);
+    assert_eq!(refused(&mut s, &create_with(2, 64, 0, 10, 0)), 11);
+    assert_eq!(refused(&mut s, &create_with(2, 2, 0, 10, 2001)), 10);
+    for place in [10, 11] {
+        let mut stray = create_with(2, 2, 0, 10, 0);
+        stray[place] = 1;
+        assert_eq!(refused(&mut s, &stray), 9);
+    }
+}
+
+#[test]
+fn two_screen_threads_take_turns() {
+    // "Two screen threads share priority 10 and the first never lets go."
+    let mut s = alone();
+    join_in_turns(&mut s, 0, 0, 10);
+    assert_eq!(join_in_turns(&mut s, 1, 0, 10), (2, 0, 0));
+    // "A round-robin thread gets a slice of 4 ticks": the fourth one passes
+    // the turn on, "before the decision".
+    let runs: Vec<u8> = (0..12).map(|_| next(&mut s)).collect();
+    assert_eq!(runs, [0, 0, 0, 1, 1, 1, 1, 0, 0, 0, 0, 1]);
+    // "0 first-in-first-out": that is as it was.
+    let mut s = alone();
+    join(&mut s, 0, 0, 10);
+    join_in_turns(&mut s, 1, 0, 10);
+    assert!((0..12).all(|_| next(&mut s) == 0));
+    assert_eq!((turn(&s, 0), turn(&s, 1)), ((0, 0), (1, 4)));
+}
+
+#[test]
+fn a_slice_ends_at_the_tail() {
+    // "at zero the slice is refilled and the thread goes to the tail of the
+    // line": of the whole line, and of any thread that is found running.
+    let mut s = start(4, 1000, 0, 0, &[50, 50]);
+    join_in_turns(&mut s, 5, 0, 20);
+    join(&mut s, 6, 0, 10);
+    join(&mut s, 7, 1, 10);
+    took(&mut s, create(8, 0, 20, 1, 0));
+    let mut slices = Vec::new();
+    for _ in 0..4 {
+        // The window is cleared, so that partition 0 keeps its budget.
+        took(&mut s, resume(0));
+        assert_eq!(next(&mut s), 5);
+        slices.push(turn(&s, 5).1);
+    }
+    assert_eq!(slices, [3, 2, 1, 4]);
+    assert_eq!(s.line(), [6, 7, 5]);
+    // One that became ready later stands behind it.
+    took(&mut s, ready(8, 1000));
+    assert_eq!(s.line(), [6, 7, 5, 8]);
+    assert_eq!(s.running(), 5);
+}
+
+#[test]
+fn who_ran_until_the_tick_is_counted() {
+    // "At each tick the running thread's task block is counted down".
+    let mut s = alone();
+    join_in_turns(&mut s, 0, 0, 10);
+    took(&mut s, create_with(1, 1, 0, 20, 0));
+    // Thread 1 comes at the very end of the tick, and it is counted.
+    assert_eq!(took(&mut s, ready(1, 1000)).2, 1);
+    assert_eq!(took(&mut s, tick(1000)).2, 1);
+    assert_eq!((turn(&s, 0).1, turn(&s, 1).1), (4, 3));
+    // Thread 0 runs from the tick's first cycle on, but not until its end.
+    took(&mut s, block(1, 1000));
+    took(&mut s, ready(1, 1999));
+    took(&mut s, tick(2000));
+    assert_eq!((turn(&s, 0).1, turn(&s, 1).1), (4, 3));
+    // A tick of no time counts like any other.
+    took(&mut s, tick(2000));
+    assert_eq!((turn(&s, 0).1, turn(&s, 1).1), (4, 2));
+    // Not the one that is chosen after the tick.
+    took(&mut s, block(1, 2000));
+    took(&mut s, tick(2000));
+    assert_eq!((turn(&s, 0).1, turn(&s, 1).1), (3, 2));
+    // A refused tick counts nothing, and nor does a tick while idle.
+    assert_eq!(refused(&mut s, &tick(4001)), 10);
+    took(&mut s, block(0, 2000));
+    took(&mut s, tick(3000));
+    assert_eq!((turn(&s, 0).1, turn(&s, 1).1), (3, 2));
+}
+
+#[test]
+fn other_events_count_nothing() {
+    let mut s = alone();
+    join_in_turns(&mut s, 0, 0, 10);
+    join_in_turns(&mut s, 1, 0, 10);
+    took(&mut s, create_with(1, 2, 0, 5, 200));
+    took(&mut s, ready(2, 400));
+    took(&mut s, set(2, 6, 600));
+    took(&mut s, block(2, 800));
+    took(&mut s, end(2, 1000));
+    took(&mut s, resume(1000));
+    assert_eq!((turn(&s, 0).1, turn(&s, 1).1), (4, 4));
+    assert_eq!(s.line(), [0, 1]);
+}
+
+#[test]
+fn a_full_slice_after_ready_and_create_alone() {
+    // "A thread that blocks and returns has a full slice."
+    let mut s = alone();
+    join_in_turns(&mut s, 0, 0, 10);
+    join(&mut s, 1, 0, 5);
+    (next(&mut s), next(&mut s), next(&mut s));
+    assert_eq!(turn(&s, 0).1, 1);
+    let now = s.stamp();
+    // Preemption, a new priority and a resume leave it.
+    took(&mut s, set(1, 20, now));
+    assert_eq!((next(&mut s), turn(&s, 0).1), (1, 1));
+    let now = s.stamp();
+    took(&mut s, set(1, 5, now));
+    took(&mut s, set(0, 11, now));
+    took(&mut s, set(0, 10, now));
+    took(&mut s, resume(7));
+    assert_eq!((s.running(), turn(&s, 0).1), (0, 1));
+    // So does block; ready fills it.
+    took(&mut s, block(0, 7));
+    assert_eq!(turn(&s, 0).1, 1);
+    took(&mut s, ready(0, 7));
+    assert_eq!(turn(&s, 0).1, 4);
+    // The same number, ended in the middle of a slice and created again.
+    next(&mut s);
+    let now = s.stamp();
+    took(&mut s, end(0, now));
+    took(&mut s, create_with(1, 0, 0, 10, now));
+    assert_eq!(turn(&s, 0), (1, 4));
+    took(&mut s, end(0, now));
+    took(&mut s, create(0, 0, 10, 1, now));
+    assert_eq!(turn(&s, 0), (0, 0));
+}
+
+#[test]
+fn a_slice_that_ends_looks_for_the_next() {
+    // Equal ones in their order, whoever is in front of them with less, and
+    // those that this core may not run.
+    let mut s = alone();
+    join(&mut s, 9, 0, 3);
+    took(&mut s, create(8, 0, 10, 1 << 1, 0));
+    took(&mut s, ready(8, 0));
+    for t in [4, 2, 7] {
+        join_in_turns(&mut s, t, 0, 10);
+    }
+    let runs: Vec<u8> = (0..16).map(|_| next(&mut s)).collect();
+    assert_eq!(runs, [4, 4, 4, 2, 2, 2, 2, 7, 7, 7, 7, 4, 4, 4, 4, 2]);
+    assert_eq!(s.line(), [9, 8, 2, 7, 4]);
+    // One who is alone at its priority goes on.
+    let now = s.stamp();
+    took(&mut s, set(2, 11, now));
+    assert!((0..8).all(|_| next(&mut s) == 2));
 }
 
 // Streams -------------------------------------------------------------------

@@ -5,11 +5,14 @@
 //! with the smaller number stands further ahead. Each partition keeps the
 //! set of its threads that stand in the line and may run on this core, and
 //! the first of them with the top priority.
+//!
+//! Nor is a slice stored as what is left of it: a round-robin thread has the
+//! number of ticks that have found it running since its slice was full.
 
 use crate::kept::Record;
 use crate::record::Event;
 use crate::sheet::Settings;
-use crate::{refusal, PARTITIONS, THREADS};
+use crate::{refusal, PARTITIONS, ROUND_ROBIN, SLICE, THREADS};
 
 #[derive(Clone, Copy, Default)]
 struct Thread {
@@ -18,6 +21,9 @@ struct Thread {
     partition: u8,
     priority: u8,
     mask: u8,
+    /// Ticks of the slice that are gone, always fewer than it has; 0 if the
+    /// thread isn't round robin.
+    gone: u8,
 }
 
 /// The runnable threads of one partition.
@@ -41,6 +47,8 @@ pub struct Threads {
     existing: u64,
     ready: u64,
     allowed: u64,
+    /// Bit t: thread t exists and is round robin.
+    in_turns: u64,
     /// Bit p: some thread of p is runnable.
     competing: u16,
     groups: [Group; PARTITIONS],
@@ -56,6 +64,7 @@ impl Threads {
             existing: 0,
             ready: 0,
             allowed: 0,
+            in_turns: 0,
             competing: 0,
             groups: [Group::default(); PARTITIONS],
             next_place: 0,
@@ -96,12 +105,19 @@ impl Threads {
             partition,
             priority,
             mask,
+            gone,
             ..
         } = self.table[t];
+        let (policy, slice) = match self.in_turns & bit(t) {
+            0 => (0, 0),
+            _ => (ROUND_ROBIN, SLICE - gone),
+        };
         (self.existing & bit(t) != 0).then_some(Record {
             partition,
             priority,
             mask,
+            policy,
+            slice,
         })
     }
 
@@ -114,37 +130,41 @@ impl Threads {
         line
     }
 
-    /// A new thread, not ready.
-    pub fn create(&mut self, event: &Event) -> Result<(), u8> {
+    /// A new thread, not ready, with a full slice if it is round robin.
+    pub fn create(&mut self, event: &Event, policy: u8) -> Result<(), u8> {
         let t = usize::from(event.thread);
         if t >= THREADS || self.existing & bit(t) != 0 {
             return Err(refusal::THREAD);
         }
-        if event.partition >= self.partitions || event.mask == 0 {
+        if event.partition >= self.partitions || event.mask == 0 || policy > ROUND_ROBIN {
             return Err(refusal::PARTITION);
         }
         self.existing |= bit(t);
         if event.mask & self.core != 0 {
             self.allowed |= bit(t);
         }
+        if policy == ROUND_ROBIN {
+            self.in_turns |= bit(t);
+        }
         self.table[t] = Thread {
             place: 0,
             partition: event.partition,
             priority: event.priority,
             mask: event.mask,
+            gone: 0,
         };
         Ok(())
     }
 
-    /// Joins the line at its tail.
+    /// Joins the line at its tail, with a full slice.
     pub fn ready(&mut self, thread: u8) -> Result<(), u8> {
         let t = self.find(thread)?;
         if self.ready & bit(t) != 0 {
             return Err(refusal::READINESS);
         }
         self.ready |= bit(t);
-        self.table[t].place = self.next_place;
-        self.next_place += 1;
+        self.table[t].gone = 0;
+        self.go_to_tail(t);
         if self.allowed & bit(t) != 0 {
             self.enter(t);
         }
@@ -195,7 +215,33 @@ impl Threads {
         }
         self.existing &= !bit(t);
         self.allowed &= !bit(t);
+        self.in_turns &= !bit(t);
         Ok(())
+    }
+
+    /// A tick finds this thread running, the first of its partition. If it is
+    /// round robin, that takes a tick of its slice, and the last one sends it
+    /// to the tail with a full slice.
+    #[inline]
+    pub fn count(&mut self, thread: u8) {
+        let t = usize::from(thread);
+        if self.in_turns & bit(t) == 0 {
+            return;
+        }
+        let thread = &mut self.table[t];
+        thread.gone += 1;
+        if thread.gone == SLICE {
+            thread.gone = 0;
+            let p = usize::from(thread.partition);
+            self.go_to_tail(t);
+            self.search(p);
+        }
+    }
+
+    /// Draws the next place in the line.
+    fn go_to_tail(&mut self, t: usize) {
+        self.table[t].place = self.next_place;
+        self.next_place += 1;
     }
 
     fn find(&self, thread: u8) -> Result<usize, u8> {

@@ -5,7 +5,7 @@ use crate::counts::{Cycles, Ticks};
 use crate::kept::Kept;
 use crate::scheduler::Scheduler;
 use crate::sheet::Settings;
-use crate::{RECORD, THREADS};
+use crate::{RECORD, ROUND_ROBIN, THREADS};
 
 pub const TICK: u8 = 1;
 pub const CREATE: u8 = 2;
@@ -24,6 +24,7 @@ struct Fields {
     priority: u8,
     stamp: u32,
     mask: u8,
+    policy: u8,
 }
 
 impl Fields {
@@ -35,10 +36,11 @@ impl Fields {
             partition,
             priority,
             mask,
+            policy,
             ..
         } = self;
         [
-            kind, thread, partition, priority, s0, s1, s2, s3, mask, 0, 0, 0,
+            kind, thread, partition, priority, s0, s1, s2, s3, mask, policy, 0, 0,
         ]
     }
 }
@@ -71,6 +73,8 @@ pub struct Maker {
     levels: Vec<u8>,
     /// Percent of threads whose mask leaves this core out.
     elsewhere: u32,
+    /// Percent of threads that are round robin.
+    in_turns: u32,
     /// Percent of events that are meant to be refused or damaged.
     faults: u32,
     pace: Pace,
@@ -119,6 +123,7 @@ impl Maker {
         } else {
             elsewhere
         };
+        let in_turns = random.pick(&[0, 30, 50, 80, 100]);
         let faults = random.pick(&[0, 0, 2, 5, 5, 10, 40]);
         Maker {
             random,
@@ -128,6 +133,7 @@ impl Maker {
             crowd,
             levels,
             elsewhere,
+            in_turns,
             faults,
             pace: Pace::Loose,
             largest,
@@ -158,10 +164,11 @@ impl Maker {
                 Pace::Still,
             ]);
             match self.random.below(100) {
-                0..=34 => self.mixed(),
-                35..=64 => self.busy(),
-                65..=74 => self.wave(),
-                75..=84 => self.reorder(),
+                0..=28 => self.mixed(),
+                29..=54 => self.busy(),
+                55..=63 => self.wave(),
+                64..=72 => self.reorder(),
+                73..=84 => self.rivals(),
                 85..=89 => self.only_poor(),
                 90..=94 => self.settle(),
                 95..=97 => self.resume(),
@@ -279,6 +286,84 @@ impl Maker {
         }
     }
 
+    /// Threads of one partition at one priority take turns: ticks, some of
+    /// them of no time, and now and then something in the middle of a slice.
+    fn rivals(&mut self) {
+        let existing = self.shadow.existing();
+        let partition = match self.random.bit(existing) {
+            Some(t) => self.shadow.partition_of(t),
+            None => self.home(),
+        };
+        let priority = self.random.pick(&self.levels);
+        for _ in 0..self.random.range(1, 3) {
+            if let Some(fields) = self.valid(CREATE) {
+                self.put(Fields {
+                    partition,
+                    priority,
+                    ..fields
+                });
+            }
+        }
+        for t in bits(self.shadow.existing()) {
+            if self.shadow.partition_of(t) == partition && self.random.percent(80) {
+                self.level(t, priority);
+            }
+        }
+        let between = self.random.pick(&[0, 10, 30]);
+        for _ in 0..self.random.range(4, 30) {
+            if self.random.percent(between) {
+                self.disturb(priority);
+            }
+            if self.random.percent(20) {
+                self.put_for(TICK, 0);
+            } else {
+                self.put_kind(TICK);
+            }
+        }
+    }
+
+    /// Gives a thread this priority and makes it ready.
+    fn level(&mut self, thread: u8, priority: u8) {
+        let stamp = self.shadow.stamp();
+        self.put(Fields {
+            kind: SET,
+            thread,
+            priority,
+            stamp,
+            ..Fields::default()
+        });
+        if self.shadow.ready() & 1 << thread == 0 {
+            self.put_for(READY, thread);
+        }
+    }
+
+    /// Something that may befall a thread in the middle of its slice, mostly
+    /// the running one: a new priority, which may be the old one, or higher
+    /// ones of others; a block, with a ready soon after it; a resume.
+    fn disturb(&mut self, priority: u8) {
+        let ready = self.shadow.ready();
+        let running = match self.shadow.running() {
+            t if usize::from(t) < THREADS && self.random.percent(70) => Some(t),
+            _ => self.random.bit(ready),
+        };
+        let Some(thread) = running else {
+            return self.put_kind(READY);
+        };
+        match self.random.below(8) {
+            0..=1 => self.level(thread, priority),
+            2 => self.put_kind(SET),
+            3..=4 => {
+                self.put_for(BLOCK, thread);
+                if self.random.percent(60) {
+                    self.put_for(READY, thread);
+                }
+            }
+            5 => self.put_kind(READY),
+            6 => self.put_kind(END),
+            _ => self.resume(),
+        }
+    }
+
     /// Leaves only partitions without a share in the line, if there are any
     /// with threads.
     fn only_poor(&mut self) {
@@ -367,7 +452,8 @@ impl Maker {
         self.put(fields);
     }
 
-    /// Puts a ready, block or end of a certain thread.
+    /// Puts a ready, block or end of a certain thread, or a tick that is seldom
+    /// a whole one.
     fn put_for(&mut self, kind: u8, thread: u8) {
         let stamp = self.stamp(false);
         self.put(Fields {
@@ -419,6 +505,7 @@ impl Maker {
         if kind == CREATE {
             fields.partition = self.home();
             fields.mask = self.mask();
+            fields.policy = u8::from(self.random.percent(self.in_turns));
         }
         if kind == CREATE || kind == SET {
             fields.priority = self.random.pick(&self.levels);
@@ -546,7 +633,7 @@ impl Maker {
             mask: u8::from(kind == CREATE),
             ..Fields::default()
         });
-        match self.random.below(14) {
+        match self.random.below(16) {
             // An unknown kind.
             0 => fields.kind = self.random.pick(&[0, 8, 9, 128, 255]),
             // Too long: just, by a clock gone back, by anything.
@@ -596,16 +683,25 @@ impl Maker {
                 fields.thread = self.random.bit(existing & !ready).unwrap_or(fields.thread);
                 fields = used_only(fields);
             }
+            // A policy that there isn't.
+            11 => {
+                fields = self.valid(CREATE).unwrap_or(fields);
+                fields.kind = CREATE;
+                fields.policy = self.policy_above_1();
+            }
+            // A policy where there is none.
+            12 => fields.policy = ROUND_ROBIN,
             // The fields of another kind.
-            11 => fields.kind = self.random.range(1, 7) as u8,
+            13 => fields.kind = self.random.range(1, 7) as u8,
             _ => {}
         }
         // A second fault on top: the order of the tests shows.
         if self.random.percent(20) {
-            match self.random.below(4) {
+            match self.random.below(5) {
                 0 => fields.stamp = self.too_late(1),
                 1 => fields.thread = self.random.byte(),
                 2 => fields.mask = self.random.byte(),
+                3 => fields.policy = self.policy_above_1(),
                 _ => fields.partition = self.random.byte(),
             }
         }
@@ -624,6 +720,11 @@ impl Maker {
         self.put_bytes(record);
     }
 
+    fn policy_above_1(&mut self) -> u8 {
+        let any = self.random.range(2, 255) as u8;
+        self.random.pick(&[2, 3, 128, 255, any])
+    }
+
     /// A stamp that is too late, by so much.
     fn too_late(&self, by: u32) -> u32 {
         self.shadow
@@ -638,6 +739,7 @@ fn used_only(mut fields: Fields) -> Fields {
     if fields.kind != CREATE {
         fields.partition = 0;
         fields.mask = 0;
+        fields.policy = 0;
         if fields.kind != SET {
             fields.priority = 0;
         }

@@ -1,7 +1,9 @@
 //! Showing a case and counting what was reached.
 
 use super::maker::{BLOCK, CREATE, END, READY, RESUME, SET, TICK};
+use super::slices::Slices;
 use super::Case;
+use crate::scheduler::Scheduler;
 use crate::RECORD;
 use std::fmt;
 
@@ -26,7 +28,7 @@ impl fmt::Display for Case {
 
 /// One event's fields, used or not, and a line feed.
 pub fn write_event(f: &mut impl fmt::Write, record: &[u8]) -> fmt::Result {
-    let &[kind, thread, partition, priority, s0, s1, s2, s3, mask, x, y, z] = record else {
+    let &[kind, thread, partition, priority, s0, s1, s2, s3, mask, policy, y, z] = record else {
         return writeln!(f, "cut     {record:02x?}");
     };
     let name = match kind {
@@ -43,15 +45,15 @@ pub fn write_event(f: &mut impl fmt::Write, record: &[u8]) -> fmt::Result {
     write!(
         f,
         "{name:6} {kind:3} thread {thread:3} partition {partition:3} priority {priority:3} \
-         stamp {stamp:10} mask {mask:08b}"
+         stamp {stamp:10} mask {mask:08b} policy {policy:3}"
     )?;
-    match [x, y, z] {
-        [0, 0, 0] => writeln!(f),
+    match [y, z] {
+        [0, 0] => writeln!(f),
         spare => writeln!(f, " spare {spare:02x?}"),
     }
 }
 
-/// How often each refusal and each mode was reached.
+/// How often each refusal, each mode and each thing about slices was reached.
 #[derive(Clone, Debug, Default, PartialEq, Eq)]
 pub struct Reach {
     pub cases: u64,
@@ -62,12 +64,14 @@ pub struct Reach {
     pub modes: [u64; 4],
     /// Accepted events by kind.
     pub kinds: [u64; 8],
+    slices: Slices,
 }
 
 impl Reach {
     /// Counts a case and the lines that some scheduler printed for it.
     pub fn count(&mut self, case: &Case, lines: &[u8]) {
         self.cases += 1;
+        let mut met = Scheduler::start(&case.sheet).ok();
         for (place, line) in lines.chunks_exact(RECORD).enumerate() {
             self.lines += 1;
             let refusal = usize::from(line[0] & 15) * 10 + usize::from(line[1] & 15);
@@ -80,16 +84,24 @@ impl Reach {
                     self.kinds[usize::from(kind & 7)] += 1;
                 }
             }
+            if let Some(met) = &mut met {
+                let event = &case.events[place * RECORD..];
+                let event = &event[..event.len().min(RECORD)];
+                self.slices.count(met, event, refusal);
+                met.event(event);
+            }
         }
     }
 
-    /// Was every refusal a stream can give, and every mode, reached?
+    /// Was every refusal a stream can give, every mode and everything about
+    /// slices reached?
     pub fn complete(&self) -> bool {
         let refusals = (0..15).filter(|number| !(7..=8).contains(number));
         refusals
             .map(|number| self.refusals[number])
             .all(|count| count > 0)
             && self.modes.iter().all(|&count| count > 0)
+            && self.slices.complete()
     }
 }
 
@@ -106,6 +118,6 @@ impl fmt::Display for Reach {
         for (kind, count) in self.kinds.iter().enumerate().skip(1) {
             writeln!(f, "accepted kind {kind}: {count}")?;
         }
-        Ok(())
+        write!(f, "{}", self.slices)
     }
 }
