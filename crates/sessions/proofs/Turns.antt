@@ -53,7 +53,7 @@ door-slice-ends x calls c q k yes-line t u on over m =
 -- no call, no tick
 none : (n : ℕ) (s : State) (t u : ℕ) → FoundAtMost n s t u []
 unfolding ticksBefore
-none n s t u = record { chosen = omega arith; runs = omega arith }
+none n s t u = record { until-chosen = omega arith; until-running = omega arith }
 
 pub door-takes-turns : DoorTakesTurns
 door-takes-turns x [] q z t u m p a b = (none fullSlice (stateIn x) t u, none (thread (stateIn x) t .slice) (stateIn x) t u)
