@@ -65,9 +65,9 @@ fn join(
         ⌝ }
 {
     let at = t as usize;
-    let slice = tasks::slice_for(policies[at]);
+    let full = tasks::slice_for(policies[at]);
     ready[at] = 1;
-    slices[at] = slice;
+    slices[at] = full;
     queue::append(queue, queued, t)
 }
 
