@@ -18,7 +18,7 @@ ghost use Rattle.threads.specs.Entries.{QueueStored, queueIn, queueFrom}
 ghost use Rattle.event.specs.Bytes.{bytesOf};
 ghost use Rattle.threads.specs.Able.{Able, Acted};
 
-// A new thread, not ready, with a full slice.
+// A new thread as the event says it, not ready, with a full slice.
 fn create(
     exists: &mut [u8; 64],
     ready: &mut [u8; 64],
@@ -27,28 +27,24 @@ fn create(
     masks: &mut [u8; 64],
     policies: &mut [u8; 64],
     slices: &mut [u8; 64],
-    t: u8,
-    partition: u8,
-    priority: u8,
-    mask: u8,
-    policy: u8,
+    event: Event,
 )
-    requires { ⌜ (t < 64) × Regular (columns (now exists) (now ready) (now partitions) (now priorities) (now masks) (now policies) (now slices)) ⌝ }
+    requires { ⌜ (event .thread < 64) × Regular (columns (now exists) (now ready) (now partitions) (now priorities) (now masks) (now policies) (now slices)) ⌝ }
     ensures { λ _. ⌜
         (threadsIn (columns (now (exists .exit)) (now (ready .exit)) (now (partitions .exit)) (now (priorities .exit)) (now (masks .exit)) (now (policies .exit)) (now (slices .exit)))
-        ≡ set (threadsIn (columns (now (exists .entry)) (now (ready .entry)) (now (partitions .entry)) (now (priorities .entry)) (now (masks .entry)) (now (policies .entry)) (now (slices .entry)))) t
-        (created partition priority mask policy))
+        ≡ set (threadsIn (columns (now (exists .entry)) (now (ready .entry)) (now (partitions .entry)) (now (priorities .entry)) (now (masks .entry)) (now (policies .entry)) (now (slices .entry)))) (event .thread)
+        (created (event .partition) (event .priority) (event .mask) (event .policy)))
         × Regular (columns (now (exists .exit)) (now (ready .exit)) (now (partitions .exit)) (now (priorities .exit)) (now (masks .exit)) (now (policies .exit)) (now (slices .exit)))
         ⌝ }
 {
-    let at = t as usize;
-    let slice = tasks::slice_for(policy);
+    let at = event.thread as usize;
+    let slice = tasks::slice_for(event.policy);
     exists[at] = 1;
     ready[at] = 0;
-    partitions[at] = partition;
-    priorities[at] = priority;
-    masks[at] = mask;
-    policies[at] = policy;
+    partitions[at] = event.partition;
+    priorities[at] = event.priority;
+    masks[at] = event.mask;
+    policies[at] = event.policy;
     slices[at] = slice;
 }
 
@@ -69,9 +65,9 @@ fn join(
         ⌝ }
 {
     let at = t as usize;
-    let slice = tasks::slice_for(policies[at]);
+    let full = tasks::slice_for(policies[at]);
     ready[at] = 1;
-    slices[at] = slice;
+    slices[at] = full;
     queue::append(queue, queued, t)
 }
 
@@ -160,11 +156,7 @@ pub fn act(
                 masks,
                 policies,
                 slices,
-                t,
-                event.partition,
-                event.priority,
-                event.mask,
-                event.policy,
+                event,
             );
             queued
         }

@@ -8,6 +8,9 @@ use borrow.Author.Needs.{needs}
 use Rattle.threads.proofs.actions.create.Statement.{statement}
 use Rattle.threads.proofs.actions.create.Tie as tie
 
+cast-at : tie.Need-cast-at
+cast-at c = search needs
+
 slice-for-requires : tie.Need-slice-for-requires
 slice-for-requires c κs = search needs
 
@@ -34,16 +37,18 @@ element-write-slices c = search needs
 
 returns : tie.Need-returns
 returns c =
-    let a = c .before .args in
-    let pre = c .before .pre in
+    let start = c .before .before in
+    let a = start .args in
+    let x = a .event in
     let ts : Columns = columns (now (a .exists)) (now (a .ready)) (now (a .partitions)) (now (a .priorities)) (now (a .masks)) (now (a .policies)) (now (a .slices)) in
-    let new : Thread = created (a .partition) (a .priority) (a .mask) (a .policy) in
-    rw (c .slice-for .ensures) (thread-put ts (pre .1) (a .t) (pre .0) new, regular-all ts (pre .1) (a .t) (pre .0) new)
+    let new : Thread = created (x .partition) (x .priority) (x .mask) (x .policy) in
+    rw (c .slice-for .ensures) (thread-put ts (start .pre .1) (x .thread) (start .pre .0) new, regular-all ts (start .pre .1) (x .thread) (start .pre .0) new)
 
 pub create-spec : {M : Type 1} → statement M
 create-spec =
     tie.close
     (tie.spec
+    cast-at
     slice-for-requires
     element-write-exists
     element-write-ready
