@@ -8,13 +8,13 @@ use lib.Dec.{eqb, leb, ltb}
 use lib.ListN.{getD}
 use native.Mathlib.Omega.{arith}
 use native.Mathlib.Decide.{ℕ-discrete, decLt}
-use borrow.Author.Tests.{lt-ltb, le-ltb, le-leb, lt-leb, leb-true, eq-eqb, ne-eqb}
+use borrow.Author.Tests.{lt-ltb, le-ltb, le-leb, lt-leb, eq-eqb, ne-eqb}
 use Rattle.lists.specs.Lists.{below, all}
 use Rattle.lists.proofs.Every.{all-both}
 use Rattle.lists.proofs.Union.{or-below, or-none}
 use Rattle.model.specs.Arrays.{Columns, threadIn, plain}
 use Rattle.model.specs.Sound.{soundThread, soundSlice}
-use Rattle.soundness.specs.Records.{soundRecords, OfAbsent, OfExisting, sliceFits, WrongSlice}
+use Rattle.soundness.specs.Records.{soundRecords, OfAbsent, OfExisting, sliceFits, WrongSlice, WrongTurn}
 
 -- ---- a byte and the flag less 1, which is g
 
@@ -58,6 +58,15 @@ wrong-slice o l x g small fits low d e b = go (ℕ-discrete o 1) (decLt x 4) (�
     go (yes y) (no z) (no w) =
         let k : g ≡ 0 = omega arith in
         rw (k, eq-eqb o 1 y, high-bits x fits, ne-eqb (x / 4 * 4) 0 (λ v. omega arith), lt-leb l 4 (omega arith), and-false (leb 1 l))
+
+-- a is the policy of a thread that does not exist, and w tells of the slice
+pub wrong-turn : (e o l a w : ℕ) → OfAbsent e o a → WrongSlice o l w → WrongTurn e o l (bitOr a w)
+wrong-turn e o l a w f s b low = rw (← or-none a w, f b, s low) (go (ℕ-discrete e 1) (ℕ-discrete o 0))
+  where
+    go : Dec (e ≡ 1) → Dec (o ≡ 0) → (eqb (cond (eqb e 1) 0 o) 0 && sliceFits o l) ≡ cond (eqb e 1) (sliceFits o l) (eqb o 0 && eqb l 0)
+    go (yes x) y = rw (eq-eqb e 1 x)
+    go (no x) (yes y) = rw (ne-eqb e 1 x, y)
+    go (no x) (no y) = rw (ne-eqb e 1 x, ne-eqb o 0 y)
 
 -- ---- what is joined
 
@@ -110,45 +119,30 @@ some x = go (decLt 0 x)
     go (yes p) = rw (lt-ltb 0 x p, ne-eqb x 0 (λ z. omega arith))
     go (no p) = rw (le-ltb 0 x (omega arith), eq-eqb x 0 (omega arith))
 
--- of a thread that exists; s is the test of its slice, where its policy o is 0 or 1
-turn : (x o s s′ y z : Bool) → (o ≡ true → s ≡ s′) → ((x && o) && s && y && z) ≡ (x && (z && y && (o && s′)))
-turn false o s s′ y z e = refl
-turn true false s s′ y z e = rw (and-false (z && y))
-turn true true s s′ y z e = rw (e refl) (go s′ y z)
-  where
-    go : (s y z : Bool) → (s && y && z) ≡ (z && y && s)
-    go true true true = refl
-    go true true false = refl
-    go true false true = refl
-    go true false false = refl
-    go false y z = rw (and-false (z && y))
+-- of a thread that exists; s is the test of its slice
+turn : (x y z s : Bool) → (x && s && y && z) ≡ (x && (z && y && s))
+turn true true true true = refl
+turn true true true false = refl
+turn true true false s = and-false (s && true)
+turn true false z s = rw (and-false s, and-false z)
+turn false y z s = refl
 
 -- of one that does not
 blank : (count r p : ℕ) (n m o l : Bool) → 1 ≤ count
-    → (leb r 1 && (eqb r 0 && eqb p 0 && n && m && o && l) && true && ltb p count) ≡ (leb r 1 && (not (eqb r 1) && eqb p 0 && n && m && o && l))
+    → (leb r 1 && (eqb r 0 && eqb p 0 && n && m && (o && l)) && true && ltb p count) ≡ (leb r 1 && (not (eqb r 1) && eqb p 0 && n && m && o && l))
 blank count r p n m o l h = go (ℕ-discrete r 0) (ℕ-discrete p 0) (ℕ-discrete r 1)
   where
-    k : Bool
-    k = n && m && o && l
+    beside : (k : Bool) → (k && (o && l) && true && true) ≡ (k && o && l)
+    beside true = rw (and-true (o && l), and-true (o && l))
+    beside false = refl
 
     go : Dec (r ≡ 0) → Dec (p ≡ 0) → Dec (r ≡ 1)
-        → (leb r 1 && (eqb r 0 && eqb p 0 && n && m && o && l) && true && ltb p count) ≡ (leb r 1 && (not (eqb r 1) && eqb p 0 && n && m && o && l))
+        → (leb r 1 && (eqb r 0 && eqb p 0 && n && m && (o && l)) && true && ltb p count) ≡ (leb r 1 && (not (eqb r 1) && eqb p 0 && n && m && o && l))
     go (yes x) (yes y) z =
-        rw (le-leb r 1 (omega arith), eq-eqb r 0 x, ne-eqb r 1 (λ v. omega arith), eq-eqb p 0 y, lt-ltb p count (omega arith), and-true k, and-true k)
+        rw (le-leb r 1 (omega arith), eq-eqb r 0 x, ne-eqb r 1 (λ v. omega arith), eq-eqb p 0 y, lt-ltb p count (omega arith)) (beside (n && m))
     go (yes x) (no y) z = rw (le-leb r 1 (omega arith), eq-eqb r 0 x, ne-eqb r 1 (λ v. omega arith), ne-eqb p 0 y)
     go (no x) y (yes z) = rw (le-leb r 1 (omega arith), ne-eqb r 0 x, eq-eqb r 1 z)
     go (no x) y (no z) = rw (lt-leb r 1 (omega arith))
-
-blank-turn : (count r p o l w : ℕ) (n m : Bool) → 1 ≤ count → WrongSlice o l w
-    → ((leb r 1 && leb o 1) && ((eqb r 0 && eqb p 0 && n && m && eqb o 0) && eqb w 0) && true && ltb p count)
-    ≡ (leb r 1 && (not (eqb r 1) && eqb p 0 && n && m && eqb o 0 && eqb l 0))
-blank-turn count r p o l w n m h s = go (ℕ-discrete o 0)
-  where
-    go : Dec (o ≡ 0)
-        → ((leb r 1 && leb o 1) && ((eqb r 0 && eqb p 0 && n && m && eqb o 0) && eqb w 0) && true && ltb p count)
-        ≡ (leb r 1 && (not (eqb r 1) && eqb p 0 && n && m && eqb o 0 && eqb l 0))
-    go (yes x) = rw (s (omega arith), x, and-true (leb r 1)) (blank count r p n m true (eqb l 0) h)
-    go (no x) = rw (ne-eqb o 0 x, and-false (eqb r 0 && eqb p 0 && n && m), and-false (leb r 1 && leb o 1), and-false (not (eqb r 1) && eqb p 0 && n && m), and-false (leb r 1))
 
 -- a thread's numbers are sound, and its flags 0 or 1
 abbrev pub proper : ℕ → ℕ → ℕ → ℕ → ℕ → ℕ → ℕ → ℕ → Bool
@@ -156,19 +150,57 @@ proper count e r p n m o l =
     (leb e 1 && leb r 1)
     && cond (eqb e 1) (ltb p count && not (eqb m 0) && (leb o 1 && sliceFits o l)) (not (eqb r 1) && eqb p 0 && eqb n 0 && eqb m 0 && eqb o 0 && eqb l 0)
 
-answer-is : (count e r p n m o l a b w : ℕ) → 1 ≤ count → OfAbsent e (bitOr (bitOr (bitOr (bitOr r p) n) m) o) a → OfExisting e m b → WrongSlice o l w
-    → answer count (bitOr (bitOr e r) o) (bitOr a w) b p ≡ proper count e r p n m o l
-answer-is count e r p n m o l a b w h f g s = go (ℕ-discrete e 0) (ℕ-discrete e 1)
+-- a policy above 1 shows on both sides
+high : (count e r p n m o l a b w : ℕ) → 1 < o → answer count (bitOr (bitOr e r) o) (bitOr a w) b p ≡ proper count e r p n m o l
+high count e r p n m o l a b w h =
+    rw (← or-below 1 (bitOr e r) o, le-ltb o 2 (omega arith), and-false (ltb (bitOr e r) 2), lt-leb o 1 h, ne-eqb o 0 (λ v. omega arith))
+    (go (eqb e 1))
   where
-    go : Dec (e ≡ 0) → Dec (e ≡ 1) → answer count (bitOr (bitOr e r) o) (bitOr a w) b p ≡ proper count e r p n m o l
-    go (yes x) y =
-        rw (← or-below 1 (bitOr e r) o, ← or-below 1 e r, ← or-none a w, lt-ltb e 2 (omega arith), two r, two o, f (omega arith), g (omega arith), ne-eqb e 1 (λ v. omega arith), le-leb e 1 (omega arith))
-        (rw (← or-none (bitOr (bitOr (bitOr r p) n) m) o, ← or-none (bitOr (bitOr r p) n) m, ← or-none (bitOr r p) n, ← or-none r p)
-        (blank-turn count r p o l w (eqb n 0) (eqb m 0) h s))
-    go (no x) (yes y) =
-        rw (← or-below 1 (bitOr e r) o, ← or-below 1 e r, ← or-none a w, lt-ltb e 2 (omega arith), two r, two o, f (omega arith), g (omega arith), eq-eqb e 1 y, le-leb e 1 (omega arith), some m)
-        (turn (leb r 1) (leb o 1) (eqb w 0) (sliceFits o l) (not (eqb m 0)) (ltb p count) (λ v. s (leb-true o 1 v)))
-    go (no x) (no y) = rw (← or-below 1 (bitOr e r) o, ← or-below 1 e r, le-ltb e 2 (omega arith), lt-leb e 1 (omega arith))
+    go : (z : Bool) → false ≡ ((leb e 1 && leb r 1) && cond z (ltb p count && not (eqb m 0) && false) (not (eqb r 1) && eqb p 0 && eqb n 0 && eqb m 0 && false && eqb l 0))
+    go true = rw (and-false (ltb p count && not (eqb m 0)), and-false (leb e 1 && leb r 1))
+    go false = rw (and-false (not (eqb r 1) && eqb p 0 && eqb n 0 && eqb m 0), and-false (leb e 1 && leb r 1))
+
+answer-is : (count e r p n m o l a b w : ℕ) → 1 ≤ count → OfAbsent e (bitOr (bitOr (bitOr r p) n) m) a → OfExisting e m b → WrongTurn e o l w
+    → answer count (bitOr (bitOr e r) o) (bitOr a w) b p ≡ proper count e r p n m o l
+answer-is count e r p n m o l a b w h f g s = go (decLt 1 o) (ℕ-discrete e 0) (ℕ-discrete e 1)
+  where
+    go : Dec (1 < o) → Dec (e ≡ 0) → Dec (e ≡ 1) → answer count (bitOr (bitOr e r) o) (bitOr a w) b p ≡ proper count e r p n m o l
+    go (yes z) x y = high count e r p n m o l a b w z
+    go (no z) (yes x) y =
+        rw (
+          ← or-below 1 (bitOr e r) o,
+          ← or-below 1 e r,
+          ← or-none a w,
+          lt-ltb e 2 (omega arith),
+          lt-ltb o 2 (omega arith),
+          two r,
+          and-true (leb r 1),
+          f (omega arith),
+          g (omega arith),
+          s (omega arith) (omega arith),
+          ne-eqb e 1 (λ v. omega arith),
+          le-leb e 1 (omega arith),
+        )
+        (rw (← or-none (bitOr (bitOr r p) n) m, ← or-none (bitOr r p) n, ← or-none r p) (blank count r p (eqb n 0) (eqb m 0) (eqb o 0) (eqb l 0) h))
+    go (no z) (no x) (yes y) =
+        rw (
+          ← or-below 1 (bitOr e r) o,
+          ← or-below 1 e r,
+          ← or-none a w,
+          lt-ltb e 2 (omega arith),
+          lt-ltb o 2 (omega arith),
+          two r,
+          and-true (leb r 1),
+          f (omega arith),
+          g (omega arith),
+          s (omega arith) (omega arith),
+          eq-eqb e 1 y,
+          le-leb e 1 (omega arith),
+          le-leb o 1 (omega arith),
+          some m,
+        )
+        (turn (leb r 1) (not (eqb m 0)) (ltb p count) (sliceFits o l))
+    go (no z) (no x) (no y) = rw (← or-below 1 (bitOr e r) o, ← or-below 1 e r, le-ltb e 2 (omega arith), lt-leb e 1 (omega arith))
 
 -- ---- all threads
 
@@ -179,9 +211,9 @@ fine count ts t = (leb (getD (ts .exists) t 0) 1 && leb (getD (ts .ready) t 0) 1
 module _ (count : ℕ) (ts : Columns) where
   -- one thread more
   pub fine-more : (t flags rest least most a b w : ℕ) → 1 ≤ count
-      → OfAbsent (getD (ts .exists) t 0) (bitOr (bitOr (bitOr (bitOr (getD (ts .ready) t 0) (getD (ts .partitions) t 0)) (getD (ts .priorities) t 0)) (getD (ts .masks) t 0)) (getD (ts .policies) t 0)) a
+      → OfAbsent (getD (ts .exists) t 0) (bitOr (bitOr (bitOr (getD (ts .ready) t 0) (getD (ts .partitions) t 0)) (getD (ts .priorities) t 0)) (getD (ts .masks) t 0)) a
       → OfExisting (getD (ts .exists) t 0) (getD (ts .masks) t 0) b
-      → WrongSlice (getD (ts .policies) t 0) (getD (ts .slices) t 0) w
+      → WrongTurn (getD (ts .exists) t 0) (getD (ts .policies) t 0) (getD (ts .slices) t 0) w
       → answer count (bitOr flags (bitOr (bitOr (getD (ts .exists) t 0) (getD (ts .ready) t 0)) (getD (ts .policies) t 0))) (bitOr rest (bitOr a w)) (min least b) (max most (getD (ts .partitions) t 0))
       ≡ (answer count flags rest least most && fine count ts t)
   unfolding soundThread soundSlice

@@ -25,3 +25,7 @@ sliceFits o l = cond (eqb o roundRobin) (leb 1 l && leb l fullSlice) (eqb l 0)
 
 abbrev pub WrongSlice : ℕ → ℕ → ℕ → Type 0
 WrongSlice o l r = o ≤ 1 → eqb r 0 ≡ sliceFits o l
+
+-- and r is 0 where it may and the flag e of the thread is 1, and where both are 0 and the flag is 0
+abbrev pub WrongTurn : ℕ → ℕ → ℕ → ℕ → Type 0
+WrongTurn e o l r = e ≤ 1 → o ≤ 1 → eqb r 0 ≡ cond (eqb e 1) (sliceFits o l) (eqb o 0 && eqb l 0)

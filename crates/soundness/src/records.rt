@@ -3,7 +3,7 @@ use std::num::wrapping_sub_u8;
 ghost use mathlib.Core.Path.{_≡_};
 ghost use Prim.Native.Nat.{_≤_, min, max};
 ghost use Rattle.model.specs.Arrays.{columns};
-ghost use Rattle.soundness.specs.Records.{soundRecords, OfAbsent, OfExisting, WrongSlice};
+ghost use Rattle.soundness.specs.Records.{soundRecords, OfAbsent, OfExisting, WrongSlice, WrongTurn};
 
 // The smaller of two bytes.
 fn smaller(a: u8, b: u8) -> u8
@@ -41,10 +41,18 @@ fn wrong_slice(policy: u8, slice: u8) -> u8
     wrapping_sub_u8(slice, policy) & (wrapping_sub_u8(policy, 1) | 252)
 }
 
+// A byte that is 0 where a thread that exists may have this policy and this slice, and where both are 0 for one that does not. The slice of the
+// latter needs no test of its own: its policy must be 0, and so must then the slice.
+fn wrong_turn(exists: u8, policy: u8, slice: u8) -> u8
+    ensures { λ r. ⌜ WrongTurn exists policy slice r ⌝ }
+{
+    of_absent(exists, policy) | wrong_slice(policy, slice)
+}
+
 // "existing threads with a valid partition and a mask other than 0", "a round-robin slice is 1 to 4, any other 0", "records of absent threads ..
 // all zero", and each flag and each policy 0 or 1. One pass without branches, on bytes alone, so that it can be done for several threads at a
 // time: what is tested of all threads is joined in four bytes. A flag or a policy above 1 makes nothing of the others certain, but it shows in
-// `flags`. The slice of a thread that does not exist needs no test of its own: where its policy is 0, so must the slice be.
+// `flags`.
 pub fn sound_threads(
     exists: &[u8; 64],
     ready: &[u8; 64],
@@ -75,7 +83,7 @@ pub fn sound_threads(
         let o = policies[at];
         let l = slices[at];
         flags = flags | (e | r | o);
-        rest = rest | (of_absent(e, r | p | n | m | o) | wrong_slice(o, l));
+        rest = rest | (of_absent(e, r | p | n | m) | wrong_turn(e, o, l));
         least = smaller(least, of_existing(e, m));
         most = larger(most, p);
         t += 1;

@@ -51,8 +51,8 @@ element-copy-out-l c = search needs
 of-absent-requires : tie.Need-of-absent-requires Inv-loop μ-loop
 of-absent-requires c κs = search needs
 
-wrong-slice-requires : tie.Need-wrong-slice-requires Inv-loop μ-loop
-wrong-slice-requires c κs = search needs
+wrong-turn-requires : tie.Need-wrong-turn-requires Inv-loop μ-loop
+wrong-turn-requires c κs = search needs
 
 of-existing-requires : tie.Need-of-existing-requires Inv-loop μ-loop
 of-existing-requires c κs = search needs
@@ -74,14 +74,14 @@ loop-again c =
     let absent = c .before .before .before .before in
     let start = absent .before .before .before .before .before .before .before .before .before .before in
     let turn = absent .before .before .before .before .before .before .before .before .before .loop in
-    let slice = c .before .before .before .wrong-slice in
+    let turned = c .before .before .before .wrong-turn in
     let existing = c .before .before .of-existing in
     let a = start .args in
     let ts = columns (now (a .exists)) (now (a .ready)) (now (a .partitions)) (now (a .priorities)) (now (a .masks)) (now (a .policies)) (now (a .slices)) in (
       omega arith,
       rw (c .larger .ensures, c .before .smaller .ensures)
-          (fine-more (a .count) ts (turn .t) (turn .flags) (turn .rest) (turn .least) (turn .most) (absent .of-absent .result) (existing .result) (slice .result)
-          (start .pre) (absent .of-absent .ensures) (existing .ensures) (slice .ensures)
+          (fine-more (a .count) ts (turn .t) (turn .flags) (turn .rest) (turn .least) (turn .most) (absent .of-absent .result) (existing .result) (turned .result)
+          (start .pre) (absent .of-absent .ensures) (existing .ensures) (turned .ensures)
           ∙ rw (turn .inv .1) (all-next (fine (a .count) ts) (turn .t))),
     )
 
@@ -109,7 +109,7 @@ sound-threads-spec =
     element-copy-out-o
     element-copy-out-l
     of-absent-requires
-    wrong-slice-requires
+    wrong-turn-requires
     of-existing-requires
     smaller-requires
     larger-requires
