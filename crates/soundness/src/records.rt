@@ -33,8 +33,8 @@ fn of_existing(exists: u8, byte: u8) -> u8
     byte | wrapping_sub_u8(exists, 1)
 }
 
-// A byte that is 0 where a thread of this policy, 0 or 1, may have this slice: 1 to 4 for round robin, otherwise 0. The slice
-// less the policy is then at most 3, the lowest two bits, for round robin, and 0 otherwise.
+// A byte that is 0 where a thread of this policy, 0 or 1, may have this slice: 1 to 4 for round robin, otherwise 0. The slice less the policy is
+// then at most 3, the lowest two bits, for round robin, and 0 otherwise.
 fn wrong_slice(policy: u8, slice: u8) -> u8
     ensures { λ r. ⌜ WrongSlice policy slice r ⌝ }
 {
