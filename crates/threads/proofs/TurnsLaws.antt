@@ -54,15 +54,12 @@ module _ (o l q : List ℕ) (k t : ℕ) where
       same = set-out ts t (counted (getD ts t absent)) out
 
   -- before the end of its slice, and at it
-  pub turned-stays : (v : ℕ) → length l ≡ 64 → t < 64 → QueueStored q k → v ≡ sliceAfter (getD o t 0) (getD l t 0) → spent (getD o t 0) (getD l t 0) ≡ false
-      → Turned o l q k (set l t v) q t
-  turned-stays v z h st e f =
-      turned-by (set l t v) q z h (ap (set l t) e) (st ∙ ap (λ (d : Bool). queueFrom (cond d (toTail (take k q) t) (take k q))) (sym f))
+  module _ (l′ : List ℕ) (z : length l ≡ 64) (h : t < 64) (a : l′ ≡ set l t (sliceAfter (getD o t 0) (getD l t 0))) where
+    pub turned-stays : QueueStored q k → spent (getD o t 0) (getD l t 0) ≡ false → Turned o l q k l′ q t
+    turned-stays st f = turned-by l′ q z h a (st ∙ ap (λ (d : Bool). queueFrom (cond d (toTail (take k q) t) (take k q))) (sym f))
 
-  pub turned-last : (v : ℕ) (q′ : List ℕ) → length l ≡ 64 → t < 64 → v ≡ sliceAfter (getD o t 0) (getD l t 0) → spent (getD o t 0) (getD l t 0) ≡ true
-      → queueIn q′ k ≡ queueFrom (toTail (take k q) t) → Turned o l q k (set l t v) q′ t
-  turned-last v q′ z h e f g =
-      turned-by (set l t v) q′ z h (ap (set l t) e) (g ∙ ap (λ (d : Bool). queueFrom (cond d (toTail (take k q) t) (take k q))) (sym f))
+    pub turned-last : (q′ : List ℕ) → spent (getD o t 0) (getD l t 0) ≡ true → queueIn q′ k ≡ queueFrom (toTail (take k q) t) → Turned o l q k l′ q′ t
+    turned-last q′ f g = turned-by l′ q′ z h a (g ∙ ap (λ (d : Bool). queueFrom (cond d (toTail (take k q) t) (take k q))) (sym f))
 
   -- a thread that is not round robin is not counted
   pub turned-other : length l ≡ 64 → t < 64 → QueueStored q k → getD o t 0 ≢ roundRobin → Turned o l q k l q t

@@ -1,5 +1,5 @@
 // What each kind of event does to the threads and the ready queue, in the arrays that the caller lends. Each function is lent the arrays that
-// it changes, and no other.
+// it reads or changes, and no other.
 use crate::queue;
 use crate::tasks;
 use event::Event;
@@ -29,12 +29,18 @@ fn create(
     slices: &mut [u8; 64],
     event: Event,
 )
-    requires { ⌜ (event .thread < 64) × Regular (columns (now exists) (now ready) (now partitions) (now priorities) (now masks) (now policies) (now slices)) ⌝ }
+    requires { ⌜
+        (event .thread < 64)
+        × Regular (columns (now exists) (now ready) (now partitions) (now priorities) (now masks) (now policies) (now slices))
+        ⌝ }
     ensures { λ _. ⌜
-        (threadsIn (columns (now (exists .exit)) (now (ready .exit)) (now (partitions .exit)) (now (priorities .exit)) (now (masks .exit)) (now (policies .exit)) (now (slices .exit)))
-        ≡ set (threadsIn (columns (now (exists .entry)) (now (ready .entry)) (now (partitions .entry)) (now (priorities .entry)) (now (masks .entry)) (now (policies .entry)) (now (slices .entry)))) (event .thread)
+        (threadsIn (columns (now (exists .exit)) (now (ready .exit)) (now (partitions .exit)) (now (priorities .exit)) (now (masks .exit))
+        (now (policies .exit)) (now (slices .exit)))
+        ≡ set (threadsIn (columns (now (exists .entry)) (now (ready .entry)) (now (partitions .entry)) (now (priorities .entry)) (now (masks .entry))
+        (now (policies .entry)) (now (slices .entry)))) (event .thread)
         (created (event .partition) (event .priority) (event .mask) (event .policy)))
-        × Regular (columns (now (exists .exit)) (now (ready .exit)) (now (partitions .exit)) (now (priorities .exit)) (now (masks .exit)) (now (policies .exit)) (now (slices .exit)))
+        × Regular (columns (now (exists .exit)) (now (ready .exit)) (now (partitions .exit)) (now (priorities .exit)) (now (masks .exit))
+        (now (policies .exit)) (now (slices .exit)))
         ⌝ }
 {
     let at = event.thread as usize;
@@ -106,10 +112,13 @@ fn forget(
 )
     requires { ⌜ (t < 64) × Regular (columns (now exists) (now ready) (now partitions) (now priorities) (now masks) (now policies) (now slices)) ⌝ }
     ensures { λ _. ⌜
-        (threadsIn (columns (now (exists .exit)) (now (ready .exit)) (now (partitions .exit)) (now (priorities .exit)) (now (masks .exit)) (now (policies .exit)) (now (slices .exit)))
-        ≡ set (threadsIn (columns (now (exists .entry)) (now (ready .entry)) (now (partitions .entry)) (now (priorities .entry)) (now (masks .entry)) (now (policies .entry)) (now (slices .entry)))) t
+        (threadsIn (columns (now (exists .exit)) (now (ready .exit)) (now (partitions .exit)) (now (priorities .exit)) (now (masks .exit))
+        (now (policies .exit)) (now (slices .exit)))
+        ≡ set (threadsIn (columns (now (exists .entry)) (now (ready .entry)) (now (partitions .entry)) (now (priorities .entry)) (now (masks .entry))
+        (now (policies .entry)) (now (slices .entry)))) t
         absent)
-        × Regular (columns (now (exists .exit)) (now (ready .exit)) (now (partitions .exit)) (now (priorities .exit)) (now (masks .exit)) (now (policies .exit)) (now (slices .exit)))
+        × Regular (columns (now (exists .exit)) (now (ready .exit)) (now (partitions .exit)) (now (priorities .exit)) (now (masks .exit))
+        (now (policies .exit)) (now (slices .exit)))
         ⌝ }
 {
     let at = t as usize;
@@ -135,13 +144,20 @@ pub fn act(
     queued: u32,
     event: Event,
 ) -> u32
-    requires { ⌜ Able (columns (now exists) (now ready) (now partitions) (now priorities) (now masks) (now policies) (now slices)) (now queue) queued (bytesOf event) ⌝ }
+    requires { ⌜
+        Able
+        (columns (now exists) (now ready) (now partitions) (now priorities) (now masks) (now policies) (now slices))
+        (now queue) queued (bytesOf event)
+        ⌝ }
     ensures { λ r. ⌜
         Acted
-        (tablesIn (columns (now (exists .entry)) (now (ready .entry)) (now (partitions .entry)) (now (priorities .entry)) (now (masks .entry)) (now (policies .entry)) (now (slices .entry))) (now (queue .entry)) queued)
-        (tablesIn (columns (now (exists .exit)) (now (ready .exit)) (now (partitions .exit)) (now (priorities .exit)) (now (masks .exit)) (now (policies .exit)) (now (slices .exit))) (now (queue .exit)) r)
+        (tablesIn (columns (now (exists .entry)) (now (ready .entry)) (now (partitions .entry)) (now (priorities .entry)) (now (masks .entry))
+        (now (policies .entry)) (now (slices .entry))) (now (queue .entry)) queued)
+        (tablesIn (columns (now (exists .exit)) (now (ready .exit)) (now (partitions .exit)) (now (priorities .exit)) (now (masks .exit))
+        (now (policies .exit)) (now (slices .exit))) (now (queue .exit)) r)
         (bytesOf event)
-        × Regular (columns (now (exists .exit)) (now (ready .exit)) (now (partitions .exit)) (now (priorities .exit)) (now (masks .exit)) (now (policies .exit)) (now (slices .exit)))
+        × Regular (columns (now (exists .exit)) (now (ready .exit)) (now (partitions .exit)) (now (priorities .exit)) (now (masks .exit))
+        (now (policies .exit)) (now (slices .exit)))
         ⌝ }
 {
     let t = event.thread;

@@ -66,7 +66,8 @@ pub fn leave(entries: &mut [u8; 64], queued: u32, t: u8) -> u32
 // Thread t, one of the entries, goes to the tail: those behind it move up, and as many are queued as before.
 pub fn to_tail(entries: &mut [u8; 64], queued: u32, t: u8)
     requires { ⌜
-        QueueStored (now entries) queued × (queued ≤ 64) × (distinct (take queued (now entries)) ≡ true) × (member t (take queued (now entries)) ≡ true)
+        QueueStored (now entries) queued × (queued ≤ 64) × (distinct (take queued (now entries)) ≡ true)
+        × (member t (take queued (now entries)) ≡ true)
         ⌝ }
     ensures { λ _. ⌜ queueIn (now (entries .exit)) queued ≡ queueFrom (toTail (take queued (now (entries .entry))) t) ⌝ }
 {

@@ -1,5 +1,7 @@
 // Task blocks: what a round-robin thread has left of its slice, and what a tick that finds it running does to it.
 ghost use mathlib.Core.Path.{_≡_};
+ghost use Prim.Native.Nat.{_<_};
+ghost use lib.ListN.{getD, set};
 ghost use Rattle.model.specs.Slices.{sliceFor, spent, sliceAfter};
 ghost use Rattle.threads.specs.Tasks.{countedOf};
 
@@ -62,14 +64,17 @@ fn count_down(t: &mut Task)
     *t = counted(*t);
 }
 
-// What is left of a slice after a tick that found its thread running: the thread's task block is made, lent and counted down.
-pub fn slice_after(policy: u8, slice: u8) -> u8
-    ensures { λ r. ⌜ r ≡ sliceAfter policy slice ⌝ }
+// The task block of the running thread is taken out of the arrays, lent and counted down, and given back: of it only the slice changes.
+pub fn count_running(policies: &[u8; 64], slices: &mut [u8; 64], at: usize)
+    requires { ⌜ at < 64 ⌝ }
+    ensures { λ _. ⌜
+        now (slices .exit) ≡ set (now (slices .entry)) at (sliceAfter (getD (now (policies .entry)) at 0) (getD (now (slices .entry)) at 0))
+        ⌝ }
 {
     let mut task = Task {
-        policy: policy,
-        slice: slice,
+        policy: policies[at],
+        slice: slices[at],
     };
     count_down(&mut task);
-    task.slice
+    slices[at] = task.slice;
 }

@@ -34,10 +34,8 @@ pub fn turn(
     if policy != ROUND_ROBIN {
         return false;
     }
-    let slice = slices[at];
-    let last = tasks::is_spent(policy, slice);
-    let left = tasks::slice_after(policy, slice);
-    slices[at] = left;
+    let last = tasks::is_spent(policy, slices[at]);
+    tasks::count_running(policies, slices, at);
     if !last {
         return false;
     }

@@ -1,4 +1,5 @@
--- `threads::tasks::count_down` meets its contract: a walk of its MIR, by hand. The borrow is opened, the struct is copied out and passed to `counted`, what that returns is stored whole, and the borrow is closed at it.
+-- `threads::tasks::count_down` meets its contract: a walk of its MIR, by hand. The borrow is opened, the struct is copied out and passed to
+-- `counted`, what that returns is stored whole, and the borrow is closed at it.
 -- All that it knows of `counted` is that it meets its contract. Assumes nothing.
 use mathlib.Core.Path.{_≡_, refl}
 use Prim.Native.Nat.{ℕ}

@@ -1,6 +1,6 @@
-use mathlib.Core.Path.{sym, _∙_}
+use mathlib.Core.Path.{sym, ap, _∙_}
 use native.Mathlib.Omega.{arith}
-use lib.ListN.{getD, length-set}
+use lib.ListN.{length, getD, length-set}
 use borrow.Author.Tests.{not-true, not-false}
 use denote.Ref.{now}
 use Rattle.threads.proofs.TasksLaws.{spent-other}
@@ -31,51 +31,45 @@ returns-2 c =
       start .pre .1 .slices,
     )
 
-element-copy-out-slice : tie.Need-element-copy-out-slice
-element-copy-out-slice c = c .before .before .before .pre .1 .inside (c .before .before .if1 .left)
+element-copy-out-is-spent : tie.Need-element-copy-out-is-spent
+element-copy-out-is-spent c = c .before .before .before .pre .1 .inside (c .before .before .if1 .left)
 
 is-spent-requires : tie.Need-is-spent-requires
 is-spent-requires c κs = search needs
 
-slice-after-requires : tie.Need-slice-after-requires
-slice-after-requires c κs = search needs
-
-element-write-slices : tie.Need-element-write-slices
-element-write-slices c = c .before .before .before .before .before .before .pre .1 .inside (c .before .before .before .before .before .if1 .left)
+count-running-requires : tie.Need-count-running-requires
+count-running-requires c κs = c .before .before .before .before .before .before .pre .1 .inside (c .before .before .before .before .before .if1 .left)
 
 returns-3 : tie.Need-returns-3
 returns-3 c =
-    let start = c .before .before .before .before .before .before .before in
+    let start = c .before .before .before .before .before .before .before .before in
     let a = start .args in
-    let on = start .pre .1 .inside (c .before .before .before .before .before .before .if1 .left) in
-    let told = c .before .before .is-spent in
-    let left = c .before .slice-after in
+    let on = start .pre .1 .inside (c .before .before .before .before .before .before .before .if1 .left) in
+    let told = c .before .before .before .is-spent in
     let more = sym (told .ensures) ∙ not-true (told .result) (c .if3 .taken) in (
       sym more,
-      turned-stays (now (a .policies)) (now (a .slices)) (now (a .queue)) (a .queued) (a .running) (left .result) (start .pre .1 .slices) on (start .pre .1 .stored) (left .ensures) more,
-      length-set (now (a .slices)) (a .running) (left .result) ∙ start .pre .1 .slices,
+      turned-stays (now (a .policies)) (now (a .slices)) (now (a .queue)) (a .queued) (a .running) _ (start .pre .1 .slices) on (c .before .count-running .ensures) (start .pre .1 .stored) more,
+      ap length (c .before .count-running .ensures) ∙ length-set (now (a .slices)) (a .running) _ ∙ start .pre .1 .slices,
     )
 
 cast-to-tail : tie.Need-cast-to-tail
-cast-to-tail c = omega (arith, c .before .before .before .before .before .before .before .before .pre .1 .inside (c .before .before .before .before .before .before .before .if1 .left))
+cast-to-tail c = omega (arith, c .before .before .before .before .before .before .before .before .before .pre .1 .inside (c .before .before .before .before .before .before .before .before .if1 .left))
 
 to-tail-requires : tie.Need-to-tail-requires
 to-tail-requires c κs =
-    let start = c .before .before .before .before .before .before .before .before in
-    let pre = start .pre .1 in
-    (pre .stored, pre .few, pre .once, pre .runs (c .before .before .before .before .before .before .before .if1 .left))
+    let pre = c .before .before .before .before .before .before .before .before .before .pre .1 in
+    (pre .stored, pre .few, pre .once, pre .runs (c .before .before .before .before .before .before .before .before .if1 .left))
 
 returns-4 : tie.Need-returns-4
 returns-4 c =
-    let start = c .before .before .before .before .before .before .before .before .before in
+    let start = c .before .before .before .before .before .before .before .before .before .before in
     let a = start .args in
-    let on = start .pre .1 .inside (c .before .before .before .before .before .before .before .before .if1 .left) in
-    let told = c .before .before .before .before .is-spent in
-    let left = c .before .before .before .slice-after in
+    let on = start .pre .1 .inside (c .before .before .before .before .before .before .before .before .before .if1 .left) in
+    let told = c .before .before .before .before .before .is-spent in
     let last = sym (told .ensures) ∙ not-false (told .result) (c .before .before .if3 .left) in (
       sym last,
-      turned-last (now (a .policies)) (now (a .slices)) (now (a .queue)) (a .queued) (a .running) (left .result) _ (start .pre .1 .slices) on (left .ensures) last (c .to-tail .ensures),
-      length-set (now (a .slices)) (a .running) (left .result) ∙ start .pre .1 .slices,
+      turned-last (now (a .policies)) (now (a .slices)) (now (a .queue)) (a .queued) (a .running) _ (start .pre .1 .slices) on (c .before .before .before .count-running .ensures) _ last (c .to-tail .ensures),
+      ap length (c .before .before .before .count-running .ensures) ∙ length-set (now (a .slices)) (a .running) _ ∙ start .pre .1 .slices,
     )
 
 pub turn-spec : {M : Type 1} → statement M
@@ -85,10 +79,9 @@ turn-spec =
     returns
     element-copy-out-policy
     returns-2
-    element-copy-out-slice
+    element-copy-out-is-spent
     is-spent-requires
-    slice-after-requires
-    element-write-slices
+    count-running-requires
     returns-3
     cast-to-tail
     to-tail-requires
