@@ -1,7 +1,7 @@
 //! Events a second of the proved scheduler and of the reference: the same
 //! streams, each behind a C function, in turns, the best of many batches.
 //!
-//!   bench [rounds]     batches a row, 300 if nothing is said
+//!   bench ROUNDS TIMES     so many batches a row
 //!
 //! A row is a sheet of so many partitions with so many ready threads and a
 //! window of W ticks. Its stream goes round through a tick, a block, a ready
@@ -11,6 +11,11 @@
 //! each. All rows take their turns, a few batches at a time, so that a slow
 //! while of the machine falls on all of them. The threads are first in, first
 //! out; a table at the end has some rows again with round-robin threads.
+//!
+//! The best times of earlier programs are read from the file TIMES, if there is
+//! one, and those of both are printed and written back: code runs faster or
+//! slower by where it lies, and tools/bench makes programs in which the
+//! libraries lie at each place that a line of the cache has for them.
 //!
 //! Built with `--cfg against` it links the library of the commit before too,
 //! and takes its runs and single events in turns with the others.
@@ -26,6 +31,7 @@ use batches::{Point, Stream, EVENTS, RUN};
 use measured::Before;
 use measured::{Proved, Timed};
 use reference::{Scheduler, RECORD, ROUND_ROBIN};
+use std::time::Duration;
 
 /// A point and each scheduler's best times there.
 struct Row {
@@ -76,6 +82,16 @@ impl Row {
                 before.events(singles);
             }
         }
+    }
+
+    /// All best times, in the order of the file that keeps them.
+    fn times(&mut self) -> Vec<&mut Duration> {
+        let mut times = Vec::new();
+        times.extend(self.proved.times());
+        times.extend(self.second.times());
+        #[cfg(against)]
+        times.extend(self.before.iter_mut().flat_map(Timed::times));
+        times
     }
 
     /// Nanoseconds an event, through `run` and through `event`.
@@ -219,10 +235,25 @@ fn all() -> Vec<(u8, u8, u32)> {
         .collect()
 }
 
-fn main() {
-    let rounds: usize = std::env::args().nth(1).map_or(300, |word| {
-        word.parse().expect("bench [rounds]: a whole number")
-    });
+/// Takes the better times of a file, and writes the best ones back.
+fn keep(tables: &mut [Vec<Row>], file: &str) -> std::io::Result<()> {
+    let kept = std::fs::read_to_string(file).unwrap_or_default();
+    let mut kept = kept.lines().filter_map(|line| line.parse().ok());
+    let mut text = String::new();
+    for time in tables.iter_mut().flatten().flat_map(Row::times) {
+        let other = kept.next().map_or(Duration::MAX, Duration::from_nanos);
+        *time = other.min(*time);
+        text += &format!("{}\n", time.as_nanos());
+    }
+    std::fs::write(file, text)
+}
+
+fn main() -> std::io::Result<()> {
+    let words: Vec<String> = std::env::args().skip(1).collect();
+    let [rounds, times] = &words[..] else {
+        panic!("bench ROUNDS TIMES");
+    };
+    let rounds: usize = rounds.parse().expect("ROUNDS: a whole number");
     let mut tables = [
         rows(all(), 0),
         rows([1, 2, 4, 8, 16, 32, 64].map(|threads| (4, threads, 100)), 0),
@@ -238,6 +269,7 @@ fn main() {
             row.measure(10);
         }
     }
+    keep(&mut tables, times)?;
     let [table, threads, partitions, windows, turns] = &tables;
     beside_the_reference(table);
     #[cfg(against)]
@@ -254,4 +286,5 @@ fn main() {
         point.window
     });
     in_turns(turns, table);
+    Ok(())
 }

@@ -204,6 +204,10 @@ impl<S: Measured> Timed<S> {
         self.event = self.event.min(begin.elapsed());
     }
 
+    pub fn times(&mut self) -> [&mut Duration; 2] {
+        [&mut self.run, &mut self.event]
+    }
+
     /// Nanoseconds an event through `run` and through `event`, in batches of
     /// so many.
     pub fn each(&self, run: usize, events: usize) -> (f64, f64) {
