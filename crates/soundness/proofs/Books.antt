@@ -57,12 +57,12 @@ module _ (h : List ℕ) (w n : ℕ) (f : Rows h w n) (a k : ℕ) (ends : a + k �
           lt-ltb _ _ small
 
   -- so the sums, where they are asked for, have not wrapped
-  pub block-exact : k ≤ 128 → (s : List ℕ) (x y : Bool) → Added (λ i. slotIn h w n (a + i)) (replicate 128 0) s k
+  pub block-exact : k ≤ 100 → (s : List ℕ) (x y : Bool) → Added (λ i. slotIn h w n (a + i)) (replicate 100 0) s k
       → x ≡ narrow → y ≡ all (λ i. leb (getD s i 0) most) (below k) → (x && y) ≡ within
   block-exact small s x y d e g = rw (e, g) (go narrow refl)
     where
       slot-is : narrow ≡ true → (i : ℕ) → i < k → getD s i 0 ≡ slotIn h w n (a + i)
-      slot-is q i c = omega (arith, d .done i c, getD-replicate {A = ℕ} 128 i 0 0 (omega arith), slot-low q i c)
+      slot-is q i c = omega (arith, d .done i c, getD-replicate {A = ℕ} 100 i 0 0 (omega arith), slot-low q i c)
 
       out : narrow ≡ false → (z : Bool) → within ≡ z → false ≡ z
       out q true r = clash (narrow-slots r) q

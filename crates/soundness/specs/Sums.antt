@@ -63,7 +63,7 @@ pub record Rows (h : List ℕ) (w n : ℕ) : Type 0 where
 -- and k of their slots, from slot a on, beside the rows' sums
 pub record Block (h : List ℕ) (w n a k : ℕ) (rows : List ℕ) : Type 0 where
   pub held : Rows h w n
-  pub small : k ≤ 128
+  pub small : k ≤ 100
   pub ends : a + k ≤ w
   pub rows-long : length rows ≡ 16
 

@@ -1,6 +1,7 @@
 // The lent history, added up by row and by slot: rows against the totals, slots against their limits. The slots are worked through in blocks
-// of 128, so that their sums take little of the stack. Each function is one plain pass over numbers, without branches, so that it can be done
-// several numbers at a time. Counters have 32 bits: a usize has 64 also where the processor has 32.
+// of 100, so that their sums take little of the stack, and a window of up to 100 ticks is one block. Each function is one plain pass over
+// numbers, without branches, so that it can be done several numbers at a time. Counters have 32 bits: a usize has 64 also where the processor
+// has 32.
 use std::num::wrapping_add_u32;
 use units::Cycles;
 use units::Ticks;
@@ -19,8 +20,8 @@ struct Row {
 }
 
 // A part of a row is added up, and each of its numbers to its slot's sum.
-fn add_row(row: &[u32], sums: &mut [u32; 128]) -> Row
-    requires { ⌜ (length (now row) ≤ 128) × (length (now sums) ≡ 128) ⌝ }
+fn add_row(row: &[u32], sums: &mut [u32; 100]) -> Row
+    requires { ⌜ (length (now row) ≤ 100) × (length (now sums) ≡ 100) ⌝ }
     ensures { λ r. ⌜ RowAdded (now (row .entry)) (now (sums .entry)) r (now (sums .exit)) ⌝ }
 {
     let size = row.len() as u32;
@@ -52,9 +53,9 @@ fn add_rows(
     from: u32,
     size: u32,
     rows: &mut [u32; 16],
-    sums: &mut [u32; 128],
+    sums: &mut [u32; 100],
 ) -> bool
-    requires { ⌜ Block (now history) window count from size (now rows) × (now sums ≡ replicate 128 0) ⌝ }
+    requires { ⌜ Block (now history) window count from size (now rows) × (now sums ≡ replicate 100 0) ⌝ }
     ensures { λ r. ⌜
         BlockAdded (now (history .entry)) window count from size (now (rows .entry)) (now (sums .entry)) r (now (rows .exit)) (now (sums .exit))
         ⌝ }
@@ -75,8 +76,8 @@ fn add_rows(
 }
 
 // The first slots' sums are at most the given number.
-fn slots_within(sums: &[u32; 128], size: u32, most: Cycles) -> bool
-    requires { ⌜ size ≤ 128 ⌝ }
+fn slots_within(sums: &[u32; 100], size: u32, most: Cycles) -> bool
+    requires { ⌜ size ≤ 100 ⌝ }
     ensures { λ r. ⌜ r ≡ all (λ k. leb (getD (now (sums .entry)) k 0) (most .0)) (below size) ⌝ }
 {
     let mut ok = true;
@@ -105,16 +106,16 @@ fn block_within(
         × RowsAdded (now (history .entry)) window count from size (now (rows .entry)) (now (rows .exit))
         ⌝ }
 {
-    let mut sums = [0u32; 128];
+    let mut sums = [0u32; 100];
     let narrow = add_rows(history, window, count, from, size, rows, &mut sums);
     narrow & slots_within(&sums, size, most)
 }
 
 // How many slots the next block has, if so many are left.
 fn block_size(left: u32) -> u32
-    ensures { λ r. ⌜ r ≡ min left 128 ⌝ }
+    ensures { λ r. ⌜ r ≡ min left 100 ⌝ }
 {
-    if left < 128 { left } else { 128 }
+    if left < 100 { left } else { 100 }
 }
 
 // "each total equal to its row's sum"

@@ -49,7 +49,7 @@ loop-holds c =
       omega arith,
       refl,
       subst (λ (l : List ℕ). Added (λ i. slotIn h (a .window) 0 (a .from + i)) l l (a .size)) (sym (start .pre .1))
-          (added-zeros (λ i. slotIn h (a .window) 0 (a .from + i)) 128 (a .size) (start .pre .0 .small) (λ i. refl)),
+          (added-zeros (λ i. slotIn h (a .window) 0 (a .from + i)) 100 (a .size) (start .pre .0 .small) (λ i. refl)),
       added-none (held h (a .window) (a .from) (a .size)) (now (a .rows)),
     )
 
