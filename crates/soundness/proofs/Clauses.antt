@@ -14,7 +14,7 @@ use Rattle.lists.proofs.Every.{all-both}
 use Rattle.lists.proofs.Union.{or-below, or-none}
 use Rattle.model.specs.Arrays.{Columns, threadIn, plain}
 use Rattle.model.specs.Sound.{soundThread, soundSlice}
-use Rattle.soundness.specs.Records.{soundRecords, OfAbsent, OfExisting, sliceFits, WrongSlice, WrongTurn}
+use Rattle.soundness.specs.Records.{soundRecords, OfAbsent, OfExisting, WrongFlag, sliceFits, WrongSlice, WrongTurn}
 
 -- ---- a byte and the flag less 1, which is g
 
@@ -37,6 +37,16 @@ of-existing e x g small fits h b = go (ℕ-discrete e 1)
     go : Dec (e ≡ 1) → bitOr x g ≡ cond (eqb e 1) x 255
     go (yes y) = let k : g ≡ 0 = omega arith in rw (eq-eqb e 1 y, k) (or-zero-r x)
     go (no y) = let k : g ≡ 255 = omega arith in rw (ne-eqb e 1 y, k) (full x small)
+
+-- ---- a flag
+
+-- all bits but the lowest
+pub wrong-flag : (x : ℕ) → x < 256 → WrongFlag x (bitAnd x 254)
+wrong-flag x small = rw (and-high x 7 1, shr-mod 7 1 small) (go (decLt x 2))
+  where
+    go : Dec (x < 2) → eqb (x / 2 * 2) 0 ≡ ltb x 2
+    go (yes p) = rw (eq-eqb (x / 2 * 2) 0 (omega arith), lt-ltb x 2 p)
+    go (no p) = rw (ne-eqb (x / 2 * 2) 0 (λ v. omega arith), le-ltb x 2 (omega arith))
 
 -- ---- a slice: x is the slice less the policy, and g the policy less 1
 
@@ -86,22 +96,21 @@ most-both a b n = go (decLt a n) (decLt b n)
     go (yes p) (no q) = rw (le-ltb (max a b) n (omega arith), lt-ltb a n p, le-ltb b n (omega arith))
     go (no p) q = rw (le-ltb (max a b) n (omega arith), le-ltb a n (omega arith))
 
-apart : (a b c d w x y z : Bool) → ((a && w) && (b && x) && (c && y) && (d && z)) ≡ ((a && b && c && d) && (w && x && y && z))
-apart true true true true w x y z = refl
-apart true true true false w x y z = and-false (w && x && y)
-apart true true false d w x y z = rw (and-false (w && x))
-apart true false c d w x y z = rw (and-false w)
-apart false b c d w x y z = refl
+apart : (a b c w x y : Bool) → ((a && w) && (b && x) && (c && y)) ≡ ((a && b && c) && (w && x && y))
+apart true true true w x y = refl
+apart true true false w x y = and-false (w && x)
+apart true false c w x y = rw (and-false w)
+apart false b c w x y = refl
 
--- the answer from the four bytes
-abbrev pub answer : ℕ → ℕ → ℕ → ℕ → ℕ → Bool
-answer count flags rest least most = ltb flags 2 && eqb rest 0 && ltb 0 least && ltb most count
+-- the answer from the three bytes
+abbrev pub answer : ℕ → ℕ → ℕ → ℕ → Bool
+answer count rest least most = eqb rest 0 && ltb 0 least && ltb most count
 
-joined : (count flags rest least most f a b p : ℕ)
-    → answer count (bitOr flags f) (bitOr rest a) (min least b) (max most p) ≡ (answer count flags rest least most && answer count f a b p)
-joined count flags rest least most f a b p =
-    rw (← or-below 1 flags f, ← or-none rest a, least-both least b, most-both most p count)
-    (apart (ltb flags 2) (eqb rest 0) (ltb 0 least) (ltb most count) (ltb f 2) (eqb a 0) (ltb 0 b) (ltb p count))
+joined : (count rest least most a b p : ℕ)
+    → answer count (bitOr rest a) (min least b) (max most p) ≡ (answer count rest least most && answer count a b p)
+joined count rest least most a b p =
+    rw (← or-none rest a, least-both least b, most-both most p count)
+    (apart (eqb rest 0) (ltb 0 least) (ltb most count) (eqb a 0) (ltb 0 b) (ltb p count))
 
 -- ---- one thread
 
@@ -150,8 +159,12 @@ proper count e r p n m o l =
     (leb e 1 && leb r 1)
     && cond (eqb e 1) (ltb p count && not (eqb m 0) && (leb o 1 && sliceFits o l)) (not (eqb r 1) && eqb p 0 && eqb n 0 && eqb m 0 && eqb o 0 && eqb l 0)
 
+-- the test of one thread, f being its flags and its policy
+abbrev tested : ℕ → ℕ → ℕ → ℕ → ℕ → Bool
+tested count f rest least most = ltb f 2 && eqb rest 0 && ltb 0 least && ltb most count
+
 -- a policy above 1 shows on both sides
-high : (count e r p n m o l a b w : ℕ) → 1 < o → answer count (bitOr (bitOr e r) o) (bitOr a w) b p ≡ proper count e r p n m o l
+high : (count e r p n m o l a b w : ℕ) → 1 < o → tested count (bitOr (bitOr e r) o) (bitOr a w) b p ≡ proper count e r p n m o l
 high count e r p n m o l a b w h =
     rw (← or-below 1 (bitOr e r) o, le-ltb o 2 (omega arith), and-false (ltb (bitOr e r) 2), lt-leb o 1 h, ne-eqb o 0 (λ v. omega arith))
     (go (eqb e 1))
@@ -161,10 +174,10 @@ high count e r p n m o l a b w h =
     go false = rw (and-false (not (eqb r 1) && eqb p 0 && eqb n 0 && eqb m 0), and-false (leb e 1 && leb r 1))
 
 answer-is : (count e r p n m o l a b w : ℕ) → 1 ≤ count → OfAbsent e (bitOr (bitOr (bitOr r p) n) m) a → OfExisting e m b → WrongTurn e o l w
-    → answer count (bitOr (bitOr e r) o) (bitOr a w) b p ≡ proper count e r p n m o l
+    → tested count (bitOr (bitOr e r) o) (bitOr a w) b p ≡ proper count e r p n m o l
 answer-is count e r p n m o l a b w h f g s = go (decLt 1 o) (ℕ-discrete e 0) (ℕ-discrete e 1)
   where
-    go : Dec (1 < o) → Dec (e ≡ 0) → Dec (e ≡ 1) → answer count (bitOr (bitOr e r) o) (bitOr a w) b p ≡ proper count e r p n m o l
+    go : Dec (1 < o) → Dec (e ≡ 0) → Dec (e ≡ 1) → tested count (bitOr (bitOr e r) o) (bitOr a w) b p ≡ proper count e r p n m o l
     go (yes z) x y = high count e r p n m o l a b w z
     go (no z) (yes x) y =
         rw (
@@ -210,16 +223,17 @@ fine count ts t = (leb (getD (ts .exists) t 0) 1 && leb (getD (ts .ready) t 0) 1
 
 module _ (count : ℕ) (ts : Columns) where
   -- one thread more
-  pub fine-more : (t flags rest least most a b w : ℕ) → 1 ≤ count
+  pub fine-more : (t rest least most a b w d : ℕ) → 1 ≤ count
       → OfAbsent (getD (ts .exists) t 0) (bitOr (bitOr (bitOr (getD (ts .ready) t 0) (getD (ts .partitions) t 0)) (getD (ts .priorities) t 0)) (getD (ts .masks) t 0)) a
       → OfExisting (getD (ts .exists) t 0) (getD (ts .masks) t 0) b
       → WrongTurn (getD (ts .exists) t 0) (getD (ts .policies) t 0) (getD (ts .slices) t 0) w
-      → answer count (bitOr flags (bitOr (bitOr (getD (ts .exists) t 0) (getD (ts .ready) t 0)) (getD (ts .policies) t 0))) (bitOr rest (bitOr a w)) (min least b) (max most (getD (ts .partitions) t 0))
-      ≡ (answer count flags rest least most && fine count ts t)
+      → WrongFlag (bitOr (bitOr (getD (ts .exists) t 0) (getD (ts .ready) t 0)) (getD (ts .policies) t 0)) d
+      → answer count (bitOr rest (bitOr d (bitOr a w))) (min least b) (max most (getD (ts .partitions) t 0)) ≡ (answer count rest least most && fine count ts t)
   unfolding soundThread soundSlice
-  fine-more t flags rest least most a b w h f g s =
-      joined count flags rest least most (bitOr (bitOr (getD (ts .exists) t 0) (getD (ts .ready) t 0)) (getD (ts .policies) t 0)) (bitOr a w) b (getD (ts .partitions) t 0)
-      ∙ ap (λ (z : Bool). answer count flags rest least most && z) (answer-is count (getD (ts .exists) t 0) (getD (ts .ready) t 0) (getD (ts .partitions) t 0) (getD (ts .priorities) t 0) (getD (ts .masks) t 0) (getD (ts .policies) t 0) (getD (ts .slices) t 0) a b w h f g s)
+  fine-more t rest least most a b w d h f g s v =
+      joined count rest least most (bitOr d (bitOr a w)) b (getD (ts .partitions) t 0)
+      ∙ ap (λ (z : Bool). answer count rest least most && z)
+      (rw (← or-none d (bitOr a w), v) (answer-is count (getD (ts .exists) t 0) (getD (ts .ready) t 0) (getD (ts .partitions) t 0) (getD (ts .priorities) t 0) (getD (ts .masks) t 0) (getD (ts .policies) t 0) (getD (ts .slices) t 0) a b w h f g s))
 
   pub fine-all : all (fine count ts) (below 64) ≡ soundRecords count ts
   unfolding soundRecords plain

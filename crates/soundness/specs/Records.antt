@@ -2,7 +2,7 @@
 use mathlib.Core.Path.{_≡_}
 use Prim.Native.Nat.{ℕ, _≤_}
 use mathlib.Core.Bool.{Bool, cond, _&&_}
-use lib.Dec.{eqb, leb}
+use lib.Dec.{eqb, leb, ltb}
 use Rattle.lists.specs.Lists.{below, all}
 use Rattle.model.specs.Arrays.{Columns, threadIn, flagsFit}
 use Rattle.model.specs.Slices.{roundRobin, fullSlice}
@@ -18,6 +18,10 @@ OfAbsent e x r = e ≤ 1 → r ≡ cond (eqb e 1) 0 x
 
 abbrev pub OfExisting : ℕ → ℕ → ℕ → Type 0
 OfExisting e x r = e ≤ 1 → r ≡ cond (eqb e 1) x 255
+
+-- r is 0 where x is 0 or 1
+abbrev pub WrongFlag : ℕ → ℕ → Type 0
+WrongFlag x r = eqb r 0 ≡ ltb x 2
 
 -- a thread of the policy o may have the slice l; and r is 0 where it may
 abbrev pub sliceFits : ℕ → ℕ → Bool

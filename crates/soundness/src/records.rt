@@ -3,7 +3,7 @@ use std::num::wrapping_sub_u8;
 ghost use mathlib.Core.Path.{_≡_};
 ghost use Prim.Native.Nat.{_≤_, min, max};
 ghost use Rattle.model.specs.Arrays.{columns};
-ghost use Rattle.soundness.specs.Records.{soundRecords, OfAbsent, OfExisting, WrongSlice, WrongTurn};
+ghost use Rattle.soundness.specs.Records.{soundRecords, OfAbsent, OfExisting, WrongFlag, WrongSlice, WrongTurn};
 
 // The smaller of two bytes.
 fn smaller(a: u8, b: u8) -> u8
@@ -33,6 +33,13 @@ fn of_existing(exists: u8, byte: u8) -> u8
     byte | wrapping_sub_u8(exists, 1)
 }
 
+// A byte that is 0 where this one is 0 or 1.
+fn wrong_flag(byte: u8) -> u8
+    ensures { λ r. ⌜ WrongFlag byte r ⌝ }
+{
+    byte & 254
+}
+
 // A byte that is 0 where a thread of this policy, 0 or 1, may have this slice: 1 to 4 for round robin, otherwise 0. The slice less the policy is
 // then at most 3, the lowest two bits, for round robin, and 0 otherwise.
 fn wrong_slice(policy: u8, slice: u8) -> u8
@@ -51,8 +58,8 @@ fn wrong_turn(exists: u8, policy: u8, slice: u8) -> u8
 
 // "existing threads with a valid partition and a mask other than 0", "a round-robin slice is 1 to 4, any other 0", "records of absent threads ..
 // all zero", and each flag and each policy 0 or 1. One pass without branches, on bytes alone, so that it can be done for several threads at a
-// time: what is tested of all threads is joined in four bytes. A flag or a policy above 1 makes nothing of the others certain, but it shows in
-// `flags`.
+// time: what is tested of all threads is joined in three bytes. A flag or a policy above 1 makes nothing of the others certain, but it shows by
+// itself.
 pub fn sound_threads(
     exists: &[u8; 64],
     ready: &[u8; 64],
@@ -68,7 +75,6 @@ pub fn sound_threads(
         b ≡ soundRecords count (columns (now (exists .entry)) (now (ready .entry)) (now (partitions .entry)) (now (priorities .entry)) (now (masks .entry)) (now (policies .entry)) (now (slices .entry)))
         ⌝ }
 {
-    let mut flags: u8 = 0;
     let mut rest: u8 = 0;
     let mut least: u8 = 255;
     let mut most: u8 = 0;
@@ -82,11 +88,11 @@ pub fn sound_threads(
         let m = masks[at];
         let o = policies[at];
         let l = slices[at];
-        flags = flags | (e | r | o);
-        rest = rest | (of_absent(e, r | p | n | m) | wrong_turn(e, o, l));
+        let wrong = of_absent(e, r | p | n | m) | wrong_turn(e, o, l);
+        rest = rest | (wrong_flag(e | r | o) | wrong);
         least = smaller(least, of_existing(e, m));
         most = larger(most, p);
         t += 1;
     }
-    (flags < 2) & (rest == 0) & (0 < least) & (most < count)
+    (rest == 0) & (0 < least) & (most < count)
 }

@@ -13,11 +13,11 @@ use Rattle.soundness.proofs.records.sound_threads.Statement.{statement}
 use Rattle.soundness.proofs.records.sound_threads.Tie as tie
 
 abbrev Inv-loop : tie.InvT-loop
-Inv-loop exists ready partitions priorities masks policies slices count flags₀ rest₀ least₀ most₀ t₀ flags rest least most t =
-    (t ≤ 64) × (answer count flags rest least most ≡ all (fine count (columns exists ready partitions priorities masks policies slices)) (below t))
+Inv-loop exists ready partitions priorities masks policies slices count rest₀ least₀ most₀ t₀ rest least most t =
+    (t ≤ 64) × (answer count rest least most ≡ all (fine count (columns exists ready partitions priorities masks policies slices)) (below t))
 
 abbrev μ-loop : tie.MeasureT-loop
-μ-loop exists ready partitions priorities masks policies slices count flags₀ rest₀ least₀ most₀ t₀ flags rest least most t =
+μ-loop exists ready partitions priorities masks policies slices count rest₀ least₀ most₀ t₀ rest least most t =
     64 - t
 
 loop-holds : tie.Need-loop-holds Inv-loop μ-loop
@@ -54,6 +54,9 @@ of-absent-requires c κs = search needs
 wrong-turn-requires : tie.Need-wrong-turn-requires Inv-loop μ-loop
 wrong-turn-requires c κs = search needs
 
+wrong-flag-requires : tie.Need-wrong-flag-requires Inv-loop μ-loop
+wrong-flag-requires c κs = search needs
+
 of-existing-requires : tie.Need-of-existing-requires Inv-loop μ-loop
 of-existing-requires c κs = search needs
 
@@ -71,17 +74,18 @@ loop-less c = search needs
 
 loop-again : tie.Need-loop-again Inv-loop μ-loop
 loop-again c =
-    let absent = c .before .before .before .before in
+    let absent = c .before .before .before .before .before in
     let start = absent .before .before .before .before .before .before .before .before .before .before in
     let turn = absent .before .before .before .before .before .before .before .before .before .loop in
-    let turned = c .before .before .before .wrong-turn in
+    let turned = c .before .before .before .before .wrong-turn in
+    let flagged = c .before .before .before .wrong-flag in
     let existing = c .before .before .of-existing in
     let a = start .args in
     let ts = columns (now (a .exists)) (now (a .ready)) (now (a .partitions)) (now (a .priorities)) (now (a .masks)) (now (a .policies)) (now (a .slices)) in (
-      omega arith,
+      omega (arith, absent .before .before .before .before .before .before .before .before .loop-test .taken),
       rw (c .larger .ensures, c .before .smaller .ensures)
-          (fine-more (a .count) ts (turn .t) (turn .flags) (turn .rest) (turn .least) (turn .most) (absent .of-absent .result) (existing .result) (turned .result)
-          (start .pre) (absent .of-absent .ensures) (existing .ensures) (turned .ensures)
+          (fine-more (a .count) ts (turn .t) (turn .rest) (turn .least) (turn .most) (absent .of-absent .result) (existing .result) (turned .result) (flagged .result)
+          (start .pre) (absent .of-absent .ensures) (existing .ensures) (turned .ensures) (flagged .ensures)
           ∙ rw (turn .inv .1) (all-next (fine (a .count) ts) (turn .t))),
     )
 
@@ -110,6 +114,7 @@ sound-threads-spec =
     element-copy-out-l
     of-absent-requires
     wrong-turn-requires
+    wrong-flag-requires
     of-existing-requires
     smaller-requires
     larger-requires
