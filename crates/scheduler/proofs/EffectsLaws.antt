@@ -2,7 +2,7 @@
 use mathlib.Core.Logic.{_≢_}
 use mathlib.Core.Path.{_≡_, refl, sym, ap, subst, _∙_}
 use Prim.Native.Nat.{ℕ, _+_, _*_, _≤_, _<_}
-use mathlib.Core.Bool.{Bool, true, false, not, cond}
+use mathlib.Core.Bool.{Bool, true, not, cond}
 use mathlib.Core.List.{List, [], _∷_, _++_}
 use lib.ListN.{length, getD, take, drop, length-append, length-take, length-drop}
 use lib.Seq.{length-take-le}
@@ -17,7 +17,6 @@ use Rattle.lists.specs.Lists.{sum}
 use Rattle.lists.proofs.Tests.{clash}
 use Rattle.lists.proofs.Sums.{entry-le}
 use Rattle.lists.proofs.Parts.{row-end, part-at}
-use Rattle.lists.proofs.Tables.{zeros-after}
 use Rattle.units.specs.Units.{elapsedOf, nextOf}
 use Rattle.sheet.specs.Settings.{W, C}
 use Rattle.sheet.specs.declared.Settings.{Settings}

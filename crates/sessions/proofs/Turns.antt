@@ -1,6 +1,6 @@
 -- Equal threads take turns, as the calls of the event door show it.
 use mathlib.Core.Logic.{_≢_}
-use mathlib.Core.Path.{_≡_, refl, sym, ap, subst, _∙_}
+use mathlib.Core.Path.{_≡_, sym, ap, subst, _∙_}
 use Prim.Native.Nat.{ℕ}
 use mathlib.Core.Bool.{true}
 use mathlib.Core.List.{List, [], _∷_, _++_}
@@ -17,7 +17,7 @@ use Rattle.model.specs.Lent.{Lent, stateIn, savedIn, refusedIn}
 use Rattle.guarantee.specs.Turns.{staysReady, ticksBefore, FoundAtMost}
 use Rattle.guarantee.proofs.Turns.{slice-ends, takes-turns}
 use Rattle.doors.specs.Doors.{Answered}
-use Rattle.sessions.specs.Calls.{Call, Calls, leftBy, givenTo, asEntries, accepts}
+use Rattle.sessions.specs.Calls.{Call, Calls, leftBy, givenTo, accepts}
 use Rattle.sessions.specs.Turns.{DoorSliceEnds, DoorTakesTurns}
 use Rattle.sessions.proofs.Calls.{answer-yes, answer-no, lengths, not-refused, calls-are-run}
 
