@@ -156,6 +156,7 @@ CHANGED = """
 void __real_restart(void);
 void __wrap_restart(void)
 {
+    BEFORE
     for (uint32_t *word = (uint32_t *)0x20000000; word != (uint32_t *)0x20001000; word++)
         if (word[0] == SAPLINGLOFT_VERSION && word[1] == sizeof(struct saplingloft_state)) {
             struct saplingloft_state *state = (struct saplingloft_state *)(word + 2);
@@ -227,6 +228,8 @@ def damaged(name):
     damage, other_sheet = "state->used[RADIO] += 1;", "state->settings.shares[RADIO] += 1; state->settings.shares[SCREEN] -= 1;"
     slice_of_five, no_policy = "state->slices[MENU] = SAPLINGLOFT_SLICE + 1;", "state->policies[RADIO] = 2;"
     restart, go_on = "__real_restart();", "for (;;) {}"
+    # no event may come between a change and the restart
+    before = {restart: '__asm__ volatile("cpsid i");', go_on: ""}
     not_taken_up, given_up = ["the saved state is not taken up: the state is not sound"], ["the state is not sound: it is given up"]
     for label, change, afterwards, said in (("restart", damage, restart, not_taken_up), ("event", damage, go_on, given_up),
                                             ("slice", slice_of_five, restart, not_taken_up), ("policy", no_policy, go_on, given_up),
@@ -234,7 +237,7 @@ def damaged(name):
         folder = OUT / "demo" / f"{name}-{label}"
         folder.mkdir(parents=True, exist_ok=True)
         source = folder / "changed.c"
-        source.write_text(CHANGED.replace("CHANGE", change).replace("AFTERWARDS", afterwards))
+        source.write_text(CHANGED.replace("BEFORE", before[afterwards]).replace("CHANGE", change).replace("AFTERWARDS", afterwards))
         printed = run([ROOT / "tools/board-demo", name, folder, "-Wl,--wrap=restart", f"-I{ROOT / 'examples/board'}", source]).decode().splitlines()
         wanted = ["started from the sheet", *said, "started from the sheet"]
         expect(printed == wanted, f"{name}, changed before the {label}: the kernel says {printed}")
