@@ -1,15 +1,16 @@
 -- Which of two entries of a list comes first, and what changes of the ready queue leave of that.
 use mathlib.Core.Logic.{_≢_}
 use mathlib.Core.Path.{_≡_, refl, sym, _∙_}
-use Prim.Native.Nat.{ℕ}
-use mathlib.Core.Bool.{Bool, true, false, not, _&&_, _||_, and-false}
+use Prim.Native.Nat.{ℕ, _≤_, _<_}
+use mathlib.Core.Bool.{Bool, true, false, not, cond, _&&_, _||_, and-false}
 use mathlib.Core.List.{List, [], _∷_, _++_}
-use lib.Dec.{eqb}
-use borrow.Author.Tests.{eqb-true, eqb-false, eq-eqb, ne-eqb}
+use lib.Dec.{eqb, ltb}
+use borrow.Author.Tests.{eqb-true, eqb-false, eq-eqb, ne-eqb, lt-ltb, le-ltb}
+use native.Mathlib.Omega.{arith}
 use Rattle.lists.specs.Lists.{any, consIf, keep, member}
 use Rattle.lists.proofs.Tests.{clash}
 use Rattle.lists.proofs.All.{without, member-without}
-use Rattle.model.specs.Step.{leaves, toTail}
+use Rattle.model.specs.Step.{leaves, toTail, toHead, requeued}
 
 -- of the entries a and b of the list, a is found first
 unfoldable pub ahead : ℕ → ℕ → List ℕ → Bool
@@ -83,6 +84,48 @@ tail-ahead a b t l d n m h = go (eqb t b) refl
     go : (z : Bool) → eqb t b ≡ z → ahead a b (toTail l t) ≡ true
     go true q = let e : t ≡ b = eqb-true t b q in rw e (tail-behind a b l d m)
     go false q = ahead-append a b (leaves l t) (t ∷ []) (ahead-leaves a b t n (eqb-false t b q) l ∙ h)
+
+-- who goes to the head is ahead of all others
+pub head-ahead : (a t : ℕ) (l : List ℕ) → ahead t a (toHead l t) ≡ true
+unfolding ahead
+head-ahead a t l = rw (eq-eqb t t refl)
+
+-- where a changed priority puts a thread: a ready one that is raised, at the tail; one that is lowered, at the head; one set to the priority it
+-- has, where it stood; one that is not ready moves nothing
+module _ (on : Bool) (m n t : ℕ) (l : List ℕ) where
+  pub requeued-raised : on ≡ true → m < n → requeued on m n t l ≡ toTail l t
+  unfolding requeued
+  requeued-raised e h = rw (e, lt-ltb m n h)
+
+  pub requeued-lowered : on ≡ true → n < m → requeued on m n t l ≡ toHead l t
+  unfolding requeued
+  requeued-lowered e h = let k : n ≤ m = omega arith in rw (e, le-ltb m n k, lt-ltb n m h)
+
+  pub requeued-same : m ≡ n → requeued on m n t l ≡ l
+  unfolding requeued
+  requeued-same e = let a : n ≤ m = omega arith in let b : m ≤ n = omega arith in rw (le-ltb m n a, le-ltb n m b) (go on)
+    where
+      go : (z : Bool) → cond z l l ≡ l
+      go true = refl
+      go false = refl
+
+  pub requeued-unready : on ≡ false → requeued on m n t l ≡ l
+  unfolding requeued
+  requeued-unready e = rw e
+
+-- and the order of two others is as it was, wherever a third goes when its priority changes
+pub requeued-ahead : (a b t : ℕ) (on : Bool) (m n : ℕ) (l : List ℕ) → t ≢ a → t ≢ b → ahead a b l ≡ true → ahead a b (requeued on m n t l) ≡ true
+unfolding ahead requeued
+requeued-ahead a b t on m n l x y h = go on (ltb m n) (ltb n m)
+  where
+    left : ahead a b (leaves l t) ≡ true
+    left = ahead-leaves a b t x y l ∙ h
+
+    go : (z z₁ z₂ : Bool) → ahead a b (cond z (cond z₁ (toTail l t) (cond z₂ (toHead l t) l)) l) ≡ true
+    go false z₁ z₂ = h
+    go true true z₂ = ahead-append a b (leaves l t) (t ∷ []) left
+    go true false true = rw (ne-eqb t a x, ne-eqb t b y) left
+    go true false false = h
 
 -- the first for which a test holds is not behind another one for which it holds
 pub not-behind : (f : ℕ → Bool) (a t : ℕ) → f a ≡ true → t ≢ a → (earlier later : List ℕ) → ((x : ℕ) → member x earlier ≡ true → f x ≡ false)

@@ -43,7 +43,8 @@ absent = record { exists = false; ready = false; partition = 0; priority = 0; ma
 abbrev pub thread : State → ℕ → Thread
 thread s t = getD (s .threads) t absent
 
--- "The line holds every ready thread, the running one included, in order of becoming ready", and of having gone to its tail: the ready queue
+-- "The line holds every ready thread, the running one included, in order of becoming ready", or of having gone to its tail or its head: the ready
+-- queue
 abbrev pub queueOf : State → List ℕ
 queueOf s = take (s .queued) (s .queue)
 

@@ -4,7 +4,7 @@ use mathlib.Core.Bool.{Bool, true, false, not, cond}
 use mathlib.Core.List.{List, [], _∷_, _++_}
 use mathlib.Core.Option.{Option, none, some}
 use lib.ListN.{length, getD, set, drop, replicate}
-use lib.Dec.{eqb}
+use lib.Dec.{eqb, ltb}
 use Rattle.lists.specs.Lists.{keep}
 use Rattle.units.specs.Units.{elapsedOf, nextOf}
 use Rattle.sheet.specs.Settings.{W}
@@ -144,9 +144,12 @@ moveSlot v =
 unfoldable pub leaves : List ℕ → ℕ → List ℕ
 leaves ts t = keep (λ u. not (eqb u t)) ts
 
--- the queue with thread t at its tail
+-- the queue with thread t at its tail, and at its head
 abbrev pub toTail : List ℕ → ℕ → List ℕ
 toTail ts t = leaves ts t ++ (t ∷ [])
+
+abbrev pub toHead : List ℕ → ℕ → List ℕ
+toHead ts t = t ∷ leaves ts t
 
 -- the queue after a tick that found the thread t, of the record r, running: "at zero .. the thread goes to the tail of the line"
 unfoldable pub turned : Thread → ℕ → List ℕ → List ℕ
@@ -170,6 +173,11 @@ abbrev pub withPriority : Thread → ℕ → Thread
 withPriority r n =
     record { exists = r .exists; ready = r .ready; partition = r .partition; priority = n; mask = r .mask; policy = r .policy; slice = r .slice }
 
+-- the queue after the priority of thread t, ready or not, changes from `old` to `new`: "a ready thread that is raised goes to the tail of the
+-- line, one that is lowered goes to its head, and one set to the priority it has stays. A thread that isn't ready only changes its number"
+unfoldable pub requeued : Bool → ℕ → ℕ → ℕ → List ℕ → List ℕ
+requeued ready old new t ts = cond ready (cond (ltb old new) (toTail ts t) (cond (ltb new old) (toHead ts t) ts)) ts
+
 -- a new thread, not ready, with a full slice
 abbrev pub created : ℕ → ℕ → ℕ → ℕ → Thread
 created p n m o = record { exists = true; ready = false; partition = p; priority = n; mask = m; policy = o; slice = sliceFor o }
@@ -181,6 +189,11 @@ joins s t = withQueue (withThread s t (returned (thread s t))) (queueOf s ++ (t 
 abbrev pub goes : State → ℕ → Thread → State
 goes s t r = withQueue (withThread s t r) (leaves (queueOf s) t)
 
+-- thread t has the priority n from now on, and stands in the queue where the change puts it
+abbrev pub reprioritized : State → ℕ → ℕ → State
+reprioritized s t n =
+    withQueue (withThread s t (withPriority (thread s t) n)) (requeued (thread s t .ready) (thread s t .priority) n t (queueOf s))
+
 -- 2, the other kinds: what each does to the threads and the ready queue
 unfoldable pub act : State → List ℕ → State
 act s b =
@@ -188,7 +201,7 @@ act s b =
     cond (eqb (kindOf b) create) (withThread s t (created (partitionOf b) (priorityOf b) (maskOf b) (policyOf b)))
     (cond (eqb (kindOf b) ready) (joins s t)
     (cond (eqb (kindOf b) block) (goes s t (withReady (thread s t) false))
-    (cond (eqb (kindOf b) setPriority) (withThread s t (withPriority (thread s t) (priorityOf b)))
+    (cond (eqb (kindOf b) setPriority) (reprioritized s t (priorityOf b))
     (cond (eqb (kindOf b) end) (goes s t absent)
     s))))
 
