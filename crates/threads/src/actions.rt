@@ -108,7 +108,8 @@ fn set_priority(
     ensures { λ _. ⌜
         (now (priorities .exit) ≡ set (now (priorities .entry)) t priority)
         × (queueIn (now (queue .exit)) queued
-        ≡ queueFrom (requeued (eqb (getD (now (ready .entry)) t 0) 1) (getD (now (priorities .entry)) t 0) priority t (take queued (now (queue .entry)))))
+        ≡ queueFrom (requeued (eqb (getD (now (ready .entry)) t 0) 1) (getD (now (priorities .entry)) t 0) priority t
+        (take queued (now (queue .entry)))))
         ⌝ }
 {
     let at = t as usize;
