@@ -122,6 +122,7 @@ module _ (l : List ℕ) (at : ℕ) where
 
 -- ---- entries that move on
 
+-- up to place i the entries stand where they stood; those from there to place `at`, without it, have moved one place on
 module _ (l : List ℕ) (at : ℕ) where
   pub moved : ℕ → List ℕ
   moved i = take (suc i) l ++ drop i (without l at)

@@ -82,12 +82,12 @@ fn put_first(entries: &mut [u8; 64], at: usize, t: u8)
     requires { ⌜ (at < 64) × (length (now entries) ≡ 64) ⌝ }
     ensures { λ _. ⌜ now (entries .exit) ≡ t ∷ without (now (entries .entry)) at ⌝ }
 {
-    let mut i = at;
-    while 0 < i {
-        let before = i - 1;
-        let moved = entries[before];
-        entries[i] = moved;
-        i = before;
+    let mut to = at;
+    while 0 < to {
+        let from = to - 1;
+        let moved = entries[from];
+        entries[to] = moved;
+        to = from;
     }
     entries[0] = t;
 }

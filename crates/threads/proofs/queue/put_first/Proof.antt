@@ -10,10 +10,10 @@ use Rattle.threads.proofs.queue.put_first.Statement.{statement}
 use Rattle.threads.proofs.queue.put_first.Tie as tie
 
 abbrev Inv-loop : tie.InvT-loop
-Inv-loop entries₀ at t i₀ entries i = (i ≤ at) × (entries ≡ moved entries₀ at i)
+Inv-loop entries₀ at t to₀ entries to = (to ≤ at) × (entries ≡ moved entries₀ at to)
 
 abbrev μ-loop : tie.MeasureT-loop
-μ-loop entries₀ at t i₀ entries i = i
+μ-loop entries₀ at t to₀ entries to = to
 
 within : (c : tie.Start Inv-loop μ-loop) → c .args .at < length (now (c .args .entries))
 within c = omega (arith, c .pre .0, c .pre .1)
@@ -21,8 +21,8 @@ within c = omega (arith, c .pre .0, c .pre .1)
 loop-holds : tie.Need-loop-holds Inv-loop μ-loop
 loop-holds c = (omega arith, move-none (now (c .args .entries)) (c .args .at) (within c))
 
-sub-before : tie.Need-sub-before Inv-loop μ-loop
-sub-before c = search needs
+sub-from : tie.Need-sub-from Inv-loop μ-loop
+sub-from c = search needs
 
 element-copy-out-moved : tie.Need-element-copy-out-moved Inv-loop μ-loop
 element-copy-out-moved c = search needs
@@ -38,7 +38,7 @@ loop-again c =
     let start = c .before .before .before in
     let turn = c .before .before .loop in
     let a = start .args in
-    (omega arith, rw (turn .inv .1) (move-back (now (a .entries)) (a .at) (within start) (turn .i) (turn .i - 1) (omega arith) (omega arith) refl))
+    (omega arith, rw (turn .inv .1) (move-back (now (a .entries)) (a .at) (within start) (turn .to) (turn .to - 1) (omega arith) (omega arith) refl))
 
 element-write-entries-2 : tie.Need-element-write-entries-2 Inv-loop μ-loop
 element-write-entries-2 c = search needs
@@ -48,7 +48,7 @@ returns c =
     let start = c .before .before in
     let a = start .args in
     let turn = c .before .loop in
-    let none : turn .i ≡ 0 = omega (arith, c .loop-test .left) in
+    let none : turn .to ≡ 0 = omega (arith, c .loop-test .left) in
     ap (λ (l : List ℕ). set l 0 (a .t)) (turn .inv .1)
     ∙ ap (λ (i : ℕ). set (moved (now (a .entries)) (a .at) i) 0 (a .t)) none
     ∙ move-end (now (a .entries)) (a .at) (within start) (a .t)
@@ -60,7 +60,7 @@ put-first-spec =
     Inv-loop
     μ-loop
     loop-holds
-    sub-before
+    sub-from
     element-copy-out-moved
     element-write-entries
     loop-less
