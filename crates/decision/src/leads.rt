@@ -254,7 +254,8 @@ pub fn change(
         firsts[here] = t;
         return competing;
     }
-    if firsts[here] != t {
+    let first = firsts[here];
+    if first != t {
         return competing;
     }
     if level == top {

@@ -65,8 +65,8 @@ returns-2 c =
     let h : getD (now (a .tops)) (getD (now (a .partitions)) (a .t) 0) 0 < getD (now (a .priorities)) (a .t) 0 + 1 = rw level at (c .if2 .taken) in
     rw level (change-up (a .core) (now (a .partitions)) (now (a .priorities)) (now (a .masks)) (take (a .queued) (now (a .queue))) (now (a .tops)) (now (a .firsts)) (a .competing) (a .t) (start .pre .2) (fine d) h)
 
-element-copy-out-if3 : tie.Need-element-copy-out-if3
-element-copy-out-if3 c = search needs
+element-copy-out-first : tie.Need-element-copy-out-first
+element-copy-out-first c = search needs
 
 returns-3 : tie.Need-returns-3
 returns-3 c =
@@ -116,7 +116,7 @@ change-spec =
     element-write-tops
     element-write-firsts
     returns-2
-    element-copy-out-if3
+    element-copy-out-first
     returns-3
     returns-4
     only-requires
