@@ -143,14 +143,17 @@ module _ (c : Settings) (t u n : ℕ) where
       slice-next : thread (v₁ .state) t .slice ≡ cond (eqb (kindOf b) Event.tick) (cond (eqb (v .state .running) t) (counted r) r) r .slice
       slice-next = ap (λ (x : Thread). x .slice) (kept c v (m .good) b ok n t (m .equals .one .queued) (m .at) keeps-t)
 
+      at-u : thread (v .state) u .priority ≡ n
+      at-u = m .equals .priority ∙ m .at
+
       -- t ahead of u, or u ahead of t, as before
       stays-ahead : (kindOf b ≡ Event.tick → ends (thread (v .state) (v .state .running)) ≡ true → v .state .running ≢ t)
           → ahead t u (queueOf (v .state)) ≡ true → ahead t u (queueOf (v₁ .state)) ≡ true
-      stays-ahead = order-kept c v (m .good) b ok n t u (m .equals .two) (m .equals .one .queued) keeps-t keeps-u
+      stays-ahead = order-kept c v (m .good) b ok n t u (m .equals .two) (m .equals .one .queued) (m .at) at-u keeps-t keeps-u
 
       stays-behind : v .state .running ≢ u → ahead u t (queueOf (v .state)) ≡ true → ahead u t (queueOf (v₁ .state)) ≡ true
       stays-behind w =
-          order-kept c v (m .good) b ok n u t (λ q. m .equals .two (sym q)) (m .equals .other .queued) keeps-u keeps-t (λ k f. w)
+          order-kept c v (m .good) b ok n u t (λ q. m .equals .two (sym q)) (m .equals .other .queued) at-u (m .at) keeps-u keeps-t (λ k f. w)
 
       goes-behind : kindOf b ≡ Event.tick → v .state .running ≡ t → ends r ≡ true → ahead u t (queueOf (v₁ .state)) ≡ true
       goes-behind k on over = turn-behind c v (m .good) b ok n t u k on over (λ q. m .equals .two (sym q)) (m .equals .other .queued)
