@@ -16,7 +16,7 @@ use Rattle.model.specs.Slices.{roundRobin, fullSlice, withSlice, counted, ends}
 use Rattle.model.specs.Policy.{chosen}
 use Rattle.model.specs.Event
 use Rattle.model.specs.Event.{kindOf}
-use Rattle.model.specs.Step.{Saved, Answer, settle, apply, answer}
+use Rattle.model.specs.Step.{Saved, Answer, settle, apply}
 use Rattle.model.specs.Run.{Entry, run, after}
 use Rattle.model.specs.Facts.{SliceFits}
 use Rattle.model.proofs.Accepted.{fit-of}
@@ -25,7 +25,7 @@ use Rattle.model.proofs.Ahead.{ahead, either}
 use Rattle.invariants.proofs.Answered.{Good, accepts, acceptedAnswer, answer-accepted, good-settle}
 use Rattle.guarantee.specs.Demand3 as demand
 use Rattle.guarantee.specs.Turns.{Equals, SliceEnds, keepsReady, staysReady, ticksBefore, isChosen, isRunning, TakesTurns}
-use Rattle.guarantee.proofs.Log.{Log, run-log, after-final, accepted-is, when-accepted, when-refused, good-final}
+use Rattle.guarantee.proofs.Log.{Log, run-log, after-final, accepted-is, accepts-it, when-accepted, when-refused, good-final}
 use Rattle.guarantee.proofs.Behind.{not-chosen, kept, same, equals-after, order-kept, turn-behind, runs-other, runs-chosen}
 
 -- ---- the end of a slice
@@ -69,7 +69,7 @@ slice-ends v len fine events b k e t u on over m =
         rw (after-final v events) (good-final (v .state .settings) v (run v events) first (run-log v events))
 
     ok : accepts y b ≡ true
-    ok = sym (accepted-is y (record { event = b; answer = answer y b }) refl) ∙ eq-eqb _ _ e
+    ok = accepts-it y b e
 
 -- ---- over a list
 
