@@ -1,4 +1,5 @@
--- THE TESTS: the runs of Runs give their lines, and the numbers of Refusals are the paper's, by computation.
+-- THE TESTS: the runs of Runs give their lines, the threads of Places stand where they must, and the numbers of Refusals are the paper's, by
+-- computation.
 use mathlib.Core.Path.{_≡_, refl}
 use mathlib.Core.List.{[], _∷_, map}
 use lib.ListN.{take, drop}
@@ -6,7 +7,8 @@ use lib.IntN.{pos, negsuc}
 use Rattle.model.specs.Doors.{decision}
 use Rattle.cases.specs.Written.{line, refusal}
 use Rattle.cases.specs.Computed.{lines, remains}
-use Rattle.cases.specs.Runs.{computed, expected, runs, slices}
+use Rattle.cases.specs.Runs.{computed, expected, runs, slices, changes}
+use Rattle.cases.specs.Places.{lineAfter, places}
 use Rattle.cases.specs.Refusals.{computedOf, papersOf, kinds, reserved, states, soundness, events, sheets, doors, buffer, zeros, lent, lentAs, left, none}
 
 every-run : map computed runs ≡ map expected runs
@@ -16,6 +18,14 @@ every-run = refl
 every-slice : map computed slices ≡ map expected slices
 unfolding lines
 every-slice = refl
+
+every-change : map computed changes ≡ map expected changes
+unfolding lines
+every-change = refl
+
+every-place : map lineAfter places ≡ map (λ p. p .line) places
+unfolding lines
+every-place = refl
 
 every-kind : computedOf kinds ≡ papersOf kinds
 unfolding lines

@@ -44,8 +44,8 @@ unfoldable pub lines : Step.Saved → List (List ℕ) → List Line
 unfolding decided Sound.slotSum Sound.soundHistory Sound.soundSlice Sound.soundThread Sound.soundQueue Sound.soundRest Sound.soundRunning Sound.sound
     Event.stampOf Event.known Event.namesThread Event.namesPlace Event.namesPriority Event.wellFormed Event.tooLong Event.wrongThread Event.wrongPlace
     Event.wrongReadiness Event.refusedState Event.refusedEvent Event.refused Step.billed Step.addUsed Step.addHistory Step.charge Step.clearHistory
-    Step.lowerUsed Step.moveSlot Step.leaves Slices.sliceFor Slices.spent Slices.sliceAfter Step.turned Step.sliced Step.act Step.settle Step.restart
-    Step.apply Step.answer Run.run Run.after
+    Step.lowerUsed Step.moveSlot Step.leaves Slices.sliceFor Slices.spent Slices.sliceAfter Step.turned Step.requeued Step.sliced Step.act
+    Step.settle Step.restart Step.apply Step.answer Run.run Run.after
 lines v events = map (λ e. answerLine (e .answer)) (Run.run v events)
 
 -- the remaining door's answer, and the decision door's, for what is lent

@@ -134,7 +134,8 @@ module _ (s : State) (b : List ℕ) where
       goes-settled s h k len t i (withReady was false) (changed s h k len t i (withReady was false) e refl refl refl (k .proper t i .slice)) refl)
       (λ q. let (i, e) = there (omega arith) (omega arith) in
       let r : Thread = withPriority was (priorityOf b) in
-      requeued-settled s h k len t i r (was .priority) (priorityOf b) (changed s h k len t i r e refl refl refl (k .proper t i .slice)) refl (λ z. e))
+      let p : Proper (s .settings .count) r = changed s h k len t i r e refl refl refl (k .proper t i .slice) in
+      requeued-settled s h k len t i r (was .priority) (priorityOf b) p refl (λ z. e))
       (λ q. let i : t < 64 = inside (omega arith) (omega arith) in
       goes-settled s h k len t i absent (record { partition = λ z. clash z refl; mask = λ z. clash z refl; slice = slice-absent; none = λ z. refl }) refl)
       (λ n₁ n₂ n₃ n₄ n₅. k)
