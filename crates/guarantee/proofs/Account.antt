@@ -245,9 +245,8 @@ module _ (c : Settings) (lent : List ℕ) (es : List (List ℕ)) (v : Saved) (m 
           ∙ ap (λ (r : Thread). recordBy b ran t r) (m .view .threads t);
       queue =
           after-queue c v (m .view .good) b (accepted v b ok)
-          ∙ ap (λ (n : ℕ). queueBy b n (thread (v .state) n) (queueOf (v .state))) (m .running)
-          ∙ ap (λ (r : Thread). queueBy b ran r (queueOf (v .state))) (m .view .threads ran)
-          ∙ ap (queueBy b ran (recordFrom c es ran)) (m .view .queue);
+          ∙ ap (λ (n : ℕ). queueBy b n (thread (v .state)) (queueOf (v .state))) (m .running)
+          ∙ (λ i. queueBy b ran (λ (t : ℕ). m .view .threads t i) (m .view .queue i));
       window = window-after;
       outside = outside-after;
     }

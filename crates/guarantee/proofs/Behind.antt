@@ -8,6 +8,7 @@ use mathlib.Core.List.{List, [], _∷_, _++_}
 use lib.Dec.{eqb}
 use borrow.Author.Tests.{eqb-true, eq-eqb, not-true, not-false}
 use native.Mathlib.Omega.{arith}
+use native.Mathlib.Decide.{ℕ-discrete}
 use Rattle.lists.specs.Lists.{member}
 use Rattle.lists.proofs.Tests.{clash, both, and, neither}
 use Rattle.sheet.specs.declared.Settings.{Settings}
@@ -16,9 +17,9 @@ use Rattle.model.specs.Slices.{withSlice, counted, ends}
 use Rattle.model.specs.Policy.{Decided, winner, chosen, decideFor, decide}
 use Rattle.model.specs.Event
 use Rattle.model.specs.Event.{kindOf, threadOf, priorityOf}
-use Rattle.model.specs.Step.{Saved, leaves, toTail, turned, withPriority, settle, apply}
+use Rattle.model.specs.Step.{Saved, leaves, toTail, turned, withPriority, requeued, settle, apply}
 use Rattle.model.specs.Facts.{Settled, Accepted}
-use Rattle.model.proofs.Ahead.{ahead, ahead-append, ahead-leaves, tail-behind, tail-ahead, not-behind}
+use Rattle.model.proofs.Ahead.{ahead, ahead-append, ahead-leaves, tail-behind, tail-ahead, requeued-same, requeued-ahead, not-behind}
 use Rattle.invariants.specs.Promises.{Allowed, FirstOf, runsFor, Choice}
 use Rattle.invariants.proofs.Chosen.{competes, chosen-is}
 use Rattle.invariants.proofs.Decision.{decide-picks, decide-idle}
@@ -190,12 +191,26 @@ module _ (c : Settings) (v : Saved) (g : Good c v) (b : List ℕ) (ok : accepts 
             → f (thread (v′ .state) u) ≡ f (thread (v′ .state) t)
         by f keeps e = ap f same-u ∙ keeps _ _ ∙ e ∙ sym (ap f same-t ∙ keeps _ _)
 
-  -- x stays ahead of y, unless it goes to the tail
-  pub order-kept : (x y : ℕ) → x ≢ y → member x (queueOf s₀) ≡ true → keepsReady n x b ≡ true → keepsReady n y b ≡ true
-      → (kindOf b ≡ Event.tick → ends (thread s₀ (s₀ .running)) ≡ true → s₀ .running ≢ x)
+  -- the queue after a set priority
+  abbrev placed : List ℕ
+  placed =
+      let w : Thread = thread s₀ (threadOf b) in
+      requeued (w .ready) (w .priority) (priorityOf b) (threadOf b) (queueOf s₀)
+
+  -- set to the priority that it has, a thread stays where it is
+  same-place : (t : ℕ) → thread s₀ t .priority ≡ n → keepsReady n t b ≡ true → eqb (kindOf b) Event.setPriority ≡ true → threadOf b ≡ t
+      → placed ≡ queueOf s₀
+  same-place t at k s e =
+      let (x, y, z) = kept-ready n t b k e in
+      let to : priorityOf b ≡ n = eqb-true _ _ (not-false _ (rw s at z)) in
+      requeued-same _ _ _ _ _ (ap (λ (i : ℕ). thread s₀ i .priority) e ∙ at ∙ sym to)
+
+  -- x stays ahead of y, unless it goes to the tail at the end of its slice
+  pub order-kept : (x y : ℕ) → x ≢ y → member x (queueOf s₀) ≡ true → thread s₀ x .priority ≡ n → thread s₀ y .priority ≡ n
+      → keepsReady n x b ≡ true → keepsReady n y b ≡ true → (kindOf b ≡ Event.tick → ends (thread s₀ (s₀ .running)) ≡ true → s₀ .running ≢ x)
       → ahead x y (queueOf s₀) ≡ true → ahead x y (queueOf (v′ .state)) ≡ true
   unfolding queueBy turned
-  order-kept x y d m sx sy stays h = rw (after-queue c v g b a) (by-tick (eqb (kindOf b) Event.tick) refl)
+  order-kept x y d m nx ny sx sy stays h = rw (after-queue c v g b a) (by-tick (eqb (kindOf b) Event.tick) refl)
     where
       q : List ℕ
       q = queueOf s₀
@@ -206,11 +221,21 @@ module _ (c : Settings) (v : Saved) (g : Good c v) (b : List ℕ) (ok : accepts 
       left : (t : ℕ) → keepsReady n t b ≡ true → (eqb (kindOf b) Event.block || eqb (kindOf b) Event.end) ≡ true → threadOf b ≢ t
       left t k l e = let (p₁, p₂, p₃) = kept-ready n t b k e in clash l (rw (p₁, p₂))
 
+      set : eqb (kindOf b) Event.setPriority ≡ true → ahead x y placed ≡ true
+      set l = go (ℕ-discrete (threadOf b) x) (ℕ-discrete (threadOf b) y)
+        where
+          go : Dec (threadOf b ≡ x) → Dec (threadOf b ≡ y) → ahead x y placed ≡ true
+          go (yes e) w = rw (same-place x nx sx l e) h
+          go (no e) (yes f) = rw (same-place y ny sy l f) h
+          go (no e) (no f) = requeued-ahead x y (threadOf b) _ _ _ q e f h
+
       others : (z₁ : Bool) → (z₂ : Bool) → (eqb (kindOf b) Event.block || eqb (kindOf b) Event.end) ≡ z₂
-          → ahead x y (cond z₁ (q ++ (threadOf b ∷ [])) (cond z₂ (leaves q (threadOf b)) q)) ≡ true
-      others true z₂ p = ahead-append x y q (threadOf b ∷ []) h
-      others false true p = ahead-leaves x y (threadOf b) (left x sx p) (left y sy p) q ∙ h
-      others false false p = h
+          → (z₃ : Bool) → eqb (kindOf b) Event.setPriority ≡ z₃
+          → ahead x y (cond z₁ (q ++ (threadOf b ∷ [])) (cond z₂ (leaves q (threadOf b)) (cond z₃ placed q))) ≡ true
+      others true z₂ p z₃ o = ahead-append x y q (threadOf b ∷ []) h
+      others false true p z₃ o = ahead-leaves x y (threadOf b) (left x sx p) (left y sy p) q ∙ h
+      others false false p true o = set o
+      others false false p false o = h
 
       turn : (z : Bool) → ends (thread s₀ ran) ≡ z → kindOf b ≡ Event.tick → ahead x y (cond z (toTail q ran) q) ≡ true
       turn true e k = tail-ahead x y ran q d (stays k e) m h
@@ -218,9 +243,11 @@ module _ (c : Settings) (v : Saved) (g : Good c v) (b : List ℕ) (ok : accepts 
 
       by-tick : (z : Bool) → eqb (kindOf b) Event.tick ≡ z
           → ahead x y (cond z (turned (thread s₀ ran) ran q) (cond (eqb (kindOf b) Event.ready) (q ++ (threadOf b ∷ []))
-          (cond (eqb (kindOf b) Event.block || eqb (kindOf b) Event.end) (leaves q (threadOf b)) q))) ≡ true
+          (cond (eqb (kindOf b) Event.block || eqb (kindOf b) Event.end) (leaves q (threadOf b)) (cond (eqb (kindOf b) Event.setPriority) placed q))))
+          ≡ true
       by-tick true e = turn (ends (thread s₀ ran)) refl (eqb-true _ _ e)
-      by-tick false e = others (eqb (kindOf b) Event.ready) (eqb (kindOf b) Event.block || eqb (kindOf b) Event.end) refl
+      by-tick false e =
+          others (eqb (kindOf b) Event.ready) (eqb (kindOf b) Event.block || eqb (kindOf b) Event.end) refl (eqb (kindOf b) Event.setPriority) refl
 
   -- at the end of its slice the running thread goes behind every other
   pub turn-behind : (t u : ℕ) → kindOf b ≡ Event.tick → s₀ .running ≡ t → ends (thread s₀ t) ≡ true → u ≢ t → member u (queueOf s₀) ≡ true

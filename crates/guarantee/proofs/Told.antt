@@ -11,8 +11,8 @@ use native.Mathlib.Omega.{arith}
 use Rattle.sheet.specs.declared.Settings.{Settings}
 use Rattle.model.specs.State.{thread, queueOf, Thread, State}
 use Rattle.model.specs.Event
-use Rattle.model.specs.Event.{kindOf, threadOf, stampOf}
-use Rattle.model.specs.Step.{Saved, leaves, charge, moveSlot, act, settle, restart, apply}
+use Rattle.model.specs.Event.{kindOf, threadOf, priorityOf, stampOf}
+use Rattle.model.specs.Step.{Saved, leaves, requeued, charge, moveSlot, act, settle, restart, apply}
 use Rattle.model.specs.Facts.{threadAt, Accepted, Named}
 use Rattle.guarantee.specs.Account.{recordNamed, recordBy, queueBy}
 use Rattle.invariants.proofs.Queues.{at-set, queue-is}
@@ -56,21 +56,25 @@ module _ (s : State) (b : List ℕ) (len : length (s .threads) ≡ 64) (n : Name
       (λ q. set-told t _ (omega arith) (omega arith) (rw q))
       (λ n₁ n₂ n₃ n₄ n₅. silent b t (thread s t) (rw (recordNamed, ne-eqb _ _ n₁, ne-eqb _ _ n₂, ne-eqb _ _ n₃, ne-eqb _ _ n₄, ne-eqb _ _ n₅)))
 
-  act-queue : (n : ℕ) (r : Thread) → kindOf b ≢ Event.tick → queueOf (act s b) ≡ queueBy b n r (queueOf s)
+  act-queue : (n : ℕ) → kindOf b ≢ Event.tick → queueOf (act s b) ≡ queueBy b n (thread s) (queueOf s)
   unfolding queueBy
-  act-queue n r k = rw (ne-eqb (kindOf b) Event.tick k) (act-cases s b (λ s′. queueOf s′ ≡ queueActed)
+  act-queue n k = rw (ne-eqb (kindOf b) Event.tick k) (act-cases s b (λ s′. queueOf s′ ≡ queueActed)
       (λ q. rw q)
       (λ q. rw (queue-is _ (queueOf s ++ (threadOf b ∷ [])), q))
       (λ q. rw (queue-is _ (leaves (queueOf s) (threadOf b)), q))
-      (λ q. rw q)
+      (λ q. rw (queue-is _ placed, q))
       (λ q. rw (queue-is _ (leaves (queueOf s) (threadOf b)), q))
-      (λ n₁ n₂ n₃ n₄ n₅. rw (ne-eqb _ _ n₂, ne-eqb _ _ n₃, ne-eqb _ _ n₅)))
+      (λ n₁ n₂ n₃ n₄ n₅. rw (ne-eqb _ _ n₂, ne-eqb _ _ n₃, ne-eqb _ _ n₅, ne-eqb _ _ n₄)))
     where
+      placed : List ℕ
+      placed = requeued (thread s i .ready) (thread s i .priority) (priorityOf b) i (queueOf s)
+
       queueActed : List ℕ
       queueActed =
           cond (eqb (kindOf b) Event.ready) (queueOf s ++ (threadOf b ∷ []))
           (cond (eqb (kindOf b) Event.block || eqb (kindOf b) Event.end) (leaves (queueOf s) (threadOf b))
-          (queueOf s))
+          (cond (eqb (kindOf b) Event.setPriority) placed
+          (queueOf s)))
 
 module _ (c : Settings) (v : Saved) (g : Good c v) (b : List ℕ) (a : Accepted (v .state) (v .history) b) where
   abbrev s′ : State
@@ -83,9 +87,9 @@ module _ (c : Settings) (v : Saved) (g : Good c v) (b : List ℕ) (a : Accepted 
       (λ q. rw q (sliced-thread (moveSlot (charge v (stampOf b)) .state) (s′ .running) (g .lengths .threads) t))
       (λ m n. rw (ne-eqb (kindOf b) Event.tick n) (act-record (charge v (stampOf b) .state) b (g .lengths .threads) (named v b (g .lengths) a) t))
 
-  pub after-queue : queueOf (settle (apply v b) .state) ≡ queueBy b (s′ .running) (thread s′ (s′ .running)) (queueOf s′)
+  pub after-queue : queueOf (settle (apply v b) .state) ≡ queueBy b (s′ .running) (thread s′) (queueOf s′)
   unfolding settle restart charge moveSlot queueBy
-  after-queue = apply-cases v b (λ x. queueOf (settle x .state) ≡ queueBy b (s′ .running) (thread s′ (s′ .running)) (queueOf s′))
+  after-queue = apply-cases v b (λ x. queueOf (settle x .state) ≡ queueBy b (s′ .running) (thread s′) (queueOf s′))
       (λ q. rw q)
       (λ q. rw q (sliced-queue (moveSlot (charge v (stampOf b)) .state) (s′ .running) (g .lengths .threads)))
-      (λ m n. act-queue (charge v (stampOf b) .state) b (g .lengths .threads) (named v b (g .lengths) a) _ _ n)
+      (λ m n. act-queue (charge v (stampOf b) .state) b (g .lengths .threads) (named v b (g .lengths) a) _ n)

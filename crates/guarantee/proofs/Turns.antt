@@ -16,7 +16,7 @@ use Rattle.model.specs.Slices.{roundRobin, fullSlice, withSlice, counted, ends}
 use Rattle.model.specs.Policy.{chosen}
 use Rattle.model.specs.Event
 use Rattle.model.specs.Event.{kindOf}
-use Rattle.model.specs.Step.{Saved, Answer, settle, apply, answer}
+use Rattle.model.specs.Step.{Saved, Answer, settle, apply}
 use Rattle.model.specs.Run.{Entry, run, after}
 use Rattle.model.specs.Facts.{SliceFits}
 use Rattle.model.proofs.Accepted.{fit-of}
@@ -25,7 +25,7 @@ use Rattle.model.proofs.Ahead.{ahead, either}
 use Rattle.invariants.proofs.Answered.{Good, accepts, acceptedAnswer, answer-accepted, good-settle}
 use Rattle.guarantee.specs.Demand3 as demand
 use Rattle.guarantee.specs.Turns.{Equals, SliceEnds, keepsReady, staysReady, ticksBefore, isChosen, isRunning, TakesTurns}
-use Rattle.guarantee.proofs.Log.{Log, run-log, after-final, accepted-is, when-accepted, when-refused, good-final}
+use Rattle.guarantee.proofs.Log.{Log, run-log, after-final, accepted-is, accepts-it, when-accepted, when-refused, good-final}
 use Rattle.guarantee.proofs.Behind.{not-chosen, kept, same, equals-after, order-kept, turn-behind, runs-other, runs-chosen}
 
 -- ---- the end of a slice
@@ -69,7 +69,7 @@ slice-ends v len fine events b k e t u on over m =
         rw (after-final v events) (good-final (v .state .settings) v (run v events) first (run-log v events))
 
     ok : accepts y b ≡ true
-    ok = sym (accepted-is y (record { event = b; answer = answer y b }) refl) ∙ eq-eqb _ _ e
+    ok = accepts-it y b e
 
 -- ---- over a list
 
@@ -143,14 +143,17 @@ module _ (c : Settings) (t u n : ℕ) where
       slice-next : thread (v₁ .state) t .slice ≡ cond (eqb (kindOf b) Event.tick) (cond (eqb (v .state .running) t) (counted r) r) r .slice
       slice-next = ap (λ (x : Thread). x .slice) (kept c v (m .good) b ok n t (m .equals .one .queued) (m .at) keeps-t)
 
+      at-u : thread (v .state) u .priority ≡ n
+      at-u = m .equals .priority ∙ m .at
+
       -- t ahead of u, or u ahead of t, as before
       stays-ahead : (kindOf b ≡ Event.tick → ends (thread (v .state) (v .state .running)) ≡ true → v .state .running ≢ t)
           → ahead t u (queueOf (v .state)) ≡ true → ahead t u (queueOf (v₁ .state)) ≡ true
-      stays-ahead = order-kept c v (m .good) b ok n t u (m .equals .two) (m .equals .one .queued) keeps-t keeps-u
+      stays-ahead = order-kept c v (m .good) b ok n t u (m .equals .two) (m .equals .one .queued) (m .at) at-u keeps-t keeps-u
 
       stays-behind : v .state .running ≢ u → ahead u t (queueOf (v .state)) ≡ true → ahead u t (queueOf (v₁ .state)) ≡ true
       stays-behind w =
-          order-kept c v (m .good) b ok n u t (λ q. m .equals .two (sym q)) (m .equals .other .queued) keeps-u keeps-t (λ k f. w)
+          order-kept c v (m .good) b ok n u t (λ q. m .equals .two (sym q)) (m .equals .other .queued) at-u (m .at) keeps-u keeps-t (λ k f. w)
 
       goes-behind : kindOf b ≡ Event.tick → v .state .running ≡ t → ends r ≡ true → ahead u t (queueOf (v₁ .state)) ≡ true
       goes-behind k on over = turn-behind c v (m .good) b ok n t u k on over (λ q. m .equals .two (sym q)) (m .equals .other .queued)

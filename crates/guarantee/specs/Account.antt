@@ -17,7 +17,7 @@ use Rattle.model.specs.Slices.{counted}
 use Rattle.model.specs.Policy.{Decided, idleMode, decide}
 use Rattle.model.specs.Event
 use Rattle.model.specs.Event.{kindOf, threadOf, partitionOf, priorityOf, maskOf, policyOf, stampOf}
-use Rattle.model.specs.Step.{Saved, leaves, turned, withReady, returned, withPriority, created}
+use Rattle.model.specs.Step.{Saved, leaves, turned, withReady, returned, withPriority, requeued, created}
 use Rattle.model.specs.Run.{run, fresh, after}
 use Rattle.model.specs.Doors.{refusedStart}
 use Rattle.guarantee.specs.Demand3.{accepted}
@@ -42,14 +42,18 @@ recordBy e running t r =
     cond (eqb (kindOf e) Event.tick) (cond (eqb running t) (counted r) r)
     (cond (eqb (threadOf e) t) (recordNamed e r) r)
 
--- an accepted event on the ready queue, where the thread `running`, of the record r, ran until then: at the end of its slice it "goes to the
--- tail of the line"; "ready: joins the line at its tail", "block: leaves the line", "end: leaves the line if in it"
-unfoldable pub queueBy : List ℕ → ℕ → Thread → List ℕ → List ℕ
-queueBy e running r q =
-    cond (eqb (kindOf e) Event.tick) (turned r running q)
+-- an accepted event on the ready queue, where the thread `running` ran until then, and the threads had these records: at the end of its slice
+-- it "goes to the tail of the line"; "ready: joins the line at its tail", "block: leaves the line", "end: leaves the line if in it"; and by a
+-- set priority "a ready thread that is raised goes to the tail of the line, one that is lowered goes to its head, and one set to the priority
+-- it has stays. A thread that isn't ready only changes its number"
+unfoldable pub queueBy : List ℕ → ℕ → (ℕ → Thread) → List ℕ → List ℕ
+queueBy e running records q =
+    let r : Thread = records (threadOf e) in
+    cond (eqb (kindOf e) Event.tick) (turned (records running) running q)
     (cond (eqb (kindOf e) Event.ready) (q ++ (threadOf e ∷ []))
     (cond (eqb (kindOf e) Event.block || eqb (kindOf e) Event.end) (leaves q (threadOf e))
-    q))
+    (cond (eqb (kindOf e) Event.setPriority) (requeued (r .ready) (r .priority) (priorityOf e) (threadOf e) q)
+    q)))
 
 -- ---- the clock
 
@@ -126,7 +130,7 @@ unfoldable pub standingBy : List ℕ → Decided → ℕ → Standing → Standi
 standingBy e d x a =
     record {
       records = λ t. recordBy e (d .thread) t (a .records t);
-      queue = queueBy e (d .thread) (a .records (d .thread)) (a .queue);
+      queue = queueBy e (d .thread) (a .records) (a .queue);
       periods = λ p. periodsBy e (chargeBy d p x) (a .periods p);
     }
 

@@ -8,7 +8,7 @@ use lib.ListN.{length, take}
 use lib.Dec.{eqb}
 use lib.IntN.{pos}
 use lib.Signed.{_≤ℤ_}
-use borrow.Author.Tests.{ne-eqb, not-true}
+use borrow.Author.Tests.{eqb-true, ne-eqb, not-true}
 use native.Mathlib.Decide.{ℕ-discrete}
 use Rattle.lists.specs.Lists.{all, keep, sum}
 use Rattle.lists.proofs.Tests.{both, and, clash}
@@ -37,7 +37,7 @@ use Rattle.guarantee.proofs.Account.{account, answers}
 use Rattle.guarantee.proofs.Totals.{used-given, totals-from, totals}
 use Rattle.accounts.proofs.ChargingLaws.{map-length}
 use Rattle.doors.specs.Doors.{Sizes, Answered}
-use Rattle.sessions.specs.Calls.{Call, Calls, leftBy, givenTo, chosenBy, entryOf, asEntries, acceptedCalls, Unmoved, Session}
+use Rattle.sessions.specs.Calls.{Call, Calls, leftBy, givenTo, chosenBy, entryOf, asEntries, accepts, acceptedCalls, Unmoved, Session}
 use Rattle.sessions.specs.Calls.{CallsAreRun, RefusedStays, DoorDemand3, DoorTotalsFrom, DoorAccount, DoorAnswers, DoorTotals}
 
 -- ---- calls are a run
@@ -59,6 +59,9 @@ entry-is : (x : Lent) (c : Call) → Answered x (c .bytes) (c .line) (c .left) �
 entry-is x c q z =
     ap₂ (λ (l : Line) (v : Saved). record { event = c .bytes; answer = record { refusal = l .refusal; decision = chosenBy l; after = v } })
     (q .line ∙ ap answerLine (answer-yes x (c .bytes) z)) (left-is x c q z)
+
+pub answer-of : (x : Lent) (c : Call) → Answered x (c .bytes) (c .line) (c .left) → refusedIn x ≡ 0 → entryOf c .answer ≡ answer (savedIn x) (c .bytes)
+answer-of x c q z = ap (λ (e : Entry). e .answer) (entry-is x c q z)
 
 entries-run : (x : Lent) (cs : List Call) → Calls x cs → refusedIn x ≡ 0 → asEntries cs ≡ run (savedIn x) (givenTo cs)
 unfolding run
@@ -95,6 +98,21 @@ refused-stays x (c ∷ cs) (q, qs) n =
     let refusal : c .line .refusal ≡ refusedIn x = ap (λ (l : Line). l .refusal) (q .line ∙ ap answerLine (answer-no x (c .bytes) n)) in
     let same : c .left ≡ x = q .still (λ z. n (sym (ap (λ (a : Answer). a .refusal) (answer-no x (c .bytes) n)) ∙ z)) in
     (refusal, same, refused-stays x cs (subst (λ (y : Lent). Calls y cs) same qs) n)
+
+-- the last of several calls
+pub last-call : (x : Lent) (calls : List Call) (c : Call) → Calls x (calls ++ (c ∷ [])) → Answered (leftBy x calls) (c .bytes) (c .line) (c .left)
+last-call x [] c q = q .0
+last-call x (d ∷ calls) c q = last-call (d .left) calls c (q .1)
+
+-- what an accepted call was given is not refused
+pub taken-call : (x : Lent) (c : Call) → Answered x (c .bytes) (c .line) (c .left) → accepts c ≡ true → refusedIn x ≡ 0
+taken-call x c q yes-line = go (ℕ-discrete (refusedIn x) 0)
+  where
+    go : Dec (refusedIn x ≡ 0) → refusedIn x ≡ 0
+    go (yes z) = z
+    go (no n) =
+        let refusal : c .line .refusal ≡ refusedIn x = ap (λ (l : Line). l .refusal) (q .line ∙ ap answerLine (answer-no x (c .bytes) n)) in
+        absurd (n (sym refusal ∙ eqb-true _ _ yes-line))
 
 -- ---- what is lent, as the model's theorems take it
 

@@ -5,7 +5,6 @@ use mathlib.Core.Bool.{true}
 use mathlib.Core.List.{List, [], _∷_}
 use borrow.Author.Tests.{eqb-true, ne-eqb}
 use native.Mathlib.Decide.{ℕ-discrete}
-use Rattle.lists.proofs.Tests.{clash}
 use Rattle.model.specs.State.{State}
 use Rattle.model.specs.Event.{refused}
 use Rattle.model.specs.Sound.{sound}
@@ -22,7 +21,7 @@ use Rattle.guarantee.proofs.Looks.{decide-settle}
 use Rattle.doors.specs.Doors.{Answered}
 use Rattle.sessions.specs.Calls.{Call, chosenBy, accepts}
 use Rattle.sessions.specs.Decisions.{Decides, DoorDecides}
-use Rattle.sessions.proofs.Calls.{answer-yes, answer-no, not-refused}
+use Rattle.sessions.proofs.Calls.{answer-yes, taken-call, not-refused}
 
 accepted-answer : (v : Saved) (b : List ℕ) → answer v b .refusal ≡ 0
     → answer v b ≡ record { refusal = 0; decision = decide (apply v b .state); after = settle (apply v b) }
@@ -40,13 +39,7 @@ accepted-answer v b z = go (ℕ-discrete n 0)
 
 module _ (x : Lent) (c : Call) (q : Answered x (c .bytes) (c .line) (c .left)) (yes-line : accepts c ≡ true) where
   taken : refusedIn x ≡ 0
-  taken = go (ℕ-discrete (refusedIn x) 0)
-    where
-      go : Dec (refusedIn x ≡ 0) → refusedIn x ≡ 0
-      go (yes z) = z
-      go (no n) =
-          let number : c .line .refusal ≡ refusedIn x = ap (λ (l : Line). l .refusal) (q .line ∙ ap answerLine (answer-no x (c .bytes) n)) in
-          clash yes-line (rw number (ne-eqb (refusedIn x) 0 n))
+  taken = taken-call x c q yes-line
 
   abbrev v : Saved
   v = savedIn x

@@ -1,6 +1,7 @@
 pub mod Calls
 pub mod Decisions
 pub mod Turns
+pub mod Places
 pub mod Runs
 pub mod Reading
 pub mod Uses

@@ -12,10 +12,12 @@ use Rattle.guarantee.proofs.Refused as Refused
 use Rattle.guarantee.proofs.Known as Known
 use Rattle.guarantee.proofs.Demand3 as Demand3
 use Rattle.guarantee.proofs.Turns as Turns
+use Rattle.guarantee.proofs.Places as Places
 use Rattle.sessions.specs.Promised.{Promised}
 use Rattle.sessions.proofs.Calls as Calls
 use Rattle.sessions.proofs.Decisions as Decisions
 use Rattle.sessions.proofs.Turns as DoorTurns
+use Rattle.sessions.proofs.Places as DoorPlaces
 use Rattle.sessions.proofs.Runs as Runs
 use Rattle.sessions.proofs.Uses as Uses
 use Rattle.sessions.proofs.FromC as FromC
@@ -53,6 +55,8 @@ promised = record {
   demand3 = Demand3.demand3;
   slice-ends = Turns.slice-ends;
   takes-turns = Turns.takes-turns;
+  places = Places.places;
+  among-equals = Places.among-equals;
   calls = Calls.calls-are-run;
   stays = Calls.refused-stays;
   decides = Decisions.door-decides;
@@ -63,6 +67,8 @@ promised = record {
   door-totals-from = Calls.door-totals-from;
   door-slice-ends = DoorTurns.door-slice-ends;
   door-takes-turns = DoorTurns.door-takes-turns;
+  door-places = DoorPlaces.door-places;
+  door-among-equals = DoorPlaces.door-among-equals;
   run = Runs.run-is-calls;
   uses = Uses.uses-are-calls;
   uses-run = Uses.uses-are-run;

@@ -8,9 +8,11 @@ use Rattle.guarantee.specs.Account as Account
 use Rattle.guarantee.specs.Demand3 as Demand3
 use Rattle.guarantee.specs.Ledger as Ledger
 use Rattle.guarantee.specs.Turns as Turns
+use Rattle.guarantee.specs.Places as Places
 use Rattle.sessions.specs.Calls as Calls
 use Rattle.sessions.specs.Decisions as Decisions
 use Rattle.sessions.specs.Turns as DoorTurns
+use Rattle.sessions.specs.Places as DoorPlaces
 use Rattle.sessions.specs.Uses as Uses
 use Rattle.sessions.specs.FromC as FromC
 
@@ -49,6 +51,8 @@ pub record Promised : Type 0 where
   pub demand3 : Demand3.Demand3
   pub slice-ends : Turns.SliceEnds
   pub takes-turns : Turns.TakesTurns
+  pub places : Places.Places
+  pub among-equals : Places.AmongEquals
   -- calls of the doors
   pub calls : Calls.CallsAreRun
   pub stays : Calls.RefusedStays
@@ -60,6 +64,8 @@ pub record Promised : Type 0 where
   pub door-totals-from : Calls.DoorTotalsFrom
   pub door-slice-ends : DoorTurns.DoorSliceEnds
   pub door-takes-turns : DoorTurns.DoorTakesTurns
+  pub door-places : DoorPlaces.DoorPlaces
+  pub door-among-equals : DoorPlaces.DoorAmongEquals
   pub run : Calls.RunIsCalls
   pub uses : Uses.UsesAreCalls
   pub uses-run : Uses.UsesAreRun
