@@ -16,9 +16,10 @@ use Rattle.lists.proofs.All.{member-keep}
 use Rattle.lists.proofs.Loops.{member-here}
 use Rattle.model.specs.State.{absent, thread, queueOf, State, Thread}
 use Rattle.model.specs.Event.{kindOf, threadOf, partitionOf, priorityOf, maskOf, policyOf}
-use Rattle.model.specs.Step.{withThread, withReady, returned, withPriority, created, joins, goes, leaves, act}
+use Rattle.model.specs.Step.{withThread, withReady, returned, withPriority, created, joins, goes, requeued, reprioritized, leaves, act}
 use Rattle.model.specs.Facts.{Settled}
 use Rattle.model.specs.Arrays.{Columns, stateOf}
+use Rattle.model.proofs.Ahead.{requeued-unready, requeued-member}
 use Rattle.model.proofs.Table.{threads-length, thread-at}
 use Rattle.threads.proofs.ActionsLaws as Actions
 use Rattle.event.specs.Kinds.{kindNumber}
@@ -40,7 +41,7 @@ module _ (s : State) (b : List ℕ) (t : ℕ) (n : t ≡ threadOf b) where
   act-block : kindOf b ≡ 4 → act s b ≡ goes s t (withReady (thread s t) false)
   act-block e = rw n (Actions.act-block s b e)
 
-  act-priority : kindOf b ≡ 5 → act s b ≡ withThread s t (withPriority (thread s t) (priorityOf b))
+  act-priority : kindOf b ≡ 5 → act s b ≡ reprioritized s t (priorityOf b)
   act-priority e = rw n (Actions.act-priority s b e)
 
   act-end : kindOf b ≡ 6 → act s b ≡ goes s t absent
@@ -218,11 +219,12 @@ module _ (core : ℕ) (r ps ns ms q : List ℕ) (queued : ℕ) (tops firsts : Li
 
   -- ---- a thread outside the queue
 
-  elsewhere : (x : Thread) → act s₀ (h .bytes) ≡ withThread s₀ t x → member t line₀ ≡ false → KeptIn core ps ns ms line tops firsts set₀
-  elsewhere x does n =
-      subst (λ (l : List ℕ). KeptIn core ps ns ms l tops firsts set₀) (sym (h .line ∙ ap queueOf does))
+  elsewhere : (x : Thread) → act s₀ (h .bytes) .threads ≡ set (s₀ .threads) t x → queueOf (act s₀ (h .bytes)) ≡ line₀ → member t line₀ ≡ false
+      → KeptIn core ps ns ms line tops firsts set₀
+  elsewhere x stored same n =
+      subst (λ (l : List ℕ). KeptIn core ps ns ms l tops firsts set₀) (sym (h .line ∙ same))
       (kept-as core ps ns ms (o .threads .partitions) (o .threads .priorities) (o .threads .masks) line₀ tops firsts set₀
-      (λ u m. others x (ap (λ (y : State). y .threads) does) u (λ e. clash m (subst (λ (v : ℕ). member v line₀ ≡ false) (sym e) n))) (h .kept))
+      (λ u m. others x stored u (λ e. clash m (subst (λ (v : ℕ). member v line₀ ≡ false) (sym e) n))) (h .kept))
 
   pub create-kept : action ≡ Create → KeptIn core ps ns ms line tops firsts set₀
   create-kept k =
@@ -230,7 +232,8 @@ module _ (core : ℕ) (r ps ns ms q : List ℕ) (queued : ℕ) (tops firsts : Li
       let b = inside (omega (arith, n)) (omega (arith, n)) in
       let gone : thread s₀ t .exists ≡ false = ap (λ (v : ℕ). thread s₀ v .exists) (h .named) ∙ h .names .absent (h .kind ∙ n) in
       let none = ap (λ (y : Thread). y .ready) (settled .proper t b .none gone) in
-      elsewhere _ (act-create s₀ (h .bytes) t (h .named) (h .kind ∙ n)) (sym (settled .queue .ready t b) ∙ none)
+      let does = act-create s₀ (h .bytes) t (h .named) (h .kind ∙ n) in
+      elsewhere _ (ap (λ (y : State). y .threads) does) (ap queueOf does) (sym (settled .queue .ready t b) ∙ none)
 
   -- ---- nothing
 
@@ -258,27 +261,36 @@ module _ (core : ℕ) (r ps ns ms q : List ℕ) (queued : ℕ) (tops firsts : Li
     abbrev new : Thread
     new = withPriority (thread s₀ t) (priorityOf (h .bytes))
 
-    does-set : act s₀ (h .bytes) ≡ withThread s₀ t new
+    does-set : act s₀ (h .bytes) ≡ reprioritized s₀ t (priorityOf (h .bytes))
     does-set = act-priority s₀ (h .bytes) t (h .named) (h .kind ∙ kind-set)
+
+    stored-set : act s₀ (h .bytes) .threads ≡ set (s₀ .threads) t new
+    stored-set = ap (λ (y : State). y .threads) does-set
 
     pub set-inside : t < 64
     set-inside = inside (omega (arith, kind-set)) (omega (arith, kind-set))
 
     own : thread s t ≡ new
-    own = here new (ap (λ (y : State). y .threads) does-set) set-inside
+    own = here new stored-set set-inside
 
-    same-line : line ≡ line₀
-    same-line = h .line ∙ ap queueOf does-set
+    -- the line after it, by the flag and the priority of before
+    line-set : queueOf (act s₀ (h .bytes)) ≡ requeued (thread s₀ t .ready) (thread s₀ t .priority) (priorityOf (h .bytes)) t line₀
+    line-set = ap queueOf does-set ∙ take-append-seam (requeued (thread s₀ t .ready) (thread s₀ t .priority) (priorityOf (h .bytes)) t line₀) _
 
     -- the flag says whether it is queued
+    flag-was : eqb (getD r t 0) 1 ≡ thread s₀ t .ready
+    flag-was = sym (ap (λ (y : Thread). y .ready) (thread-at ts t set-inside)) ∙ ap (λ (y : Thread). y .ready) own
+
     flag-is : eqb (getD r t 0) 1 ≡ member t line₀
-    flag-is = sym (ap (λ (y : Thread). y .ready) (thread-at ts t set-inside)) ∙ ap (λ (y : Thread). y .ready) own ∙ settled .queue .ready t set-inside
+    flag-is = flag-was ∙ settled .queue .ready t set-inside
 
     pub set-outside : getD r t 0 ≢ 1 → KeptIn core ps ns ms line tops firsts set₀
-    set-outside n = elsewhere new does-set (sym flag-is ∙ ne-eqb (getD r t 0) 1 n)
+    set-outside n =
+        let off = ne-eqb (getD r t 0) 1 n in
+        elsewhere new stored-set (line-set ∙ requeued-unready _ _ _ t line₀ (sym flag-was ∙ off)) (sym flag-is ∙ off)
 
     others-set : (u : ℕ) → u ≢ t → Same u
-    others-set = others new (ap (λ (y : State). y .threads) does-set)
+    others-set = others new stored-set
 
     -- its partition and its mask stay
     placed : (u : ℕ) → (getD ps u 0 ≡ getD (o .threads .partitions) u 0) × (getD ms u 0 ≡ getD (o .threads .masks) u 0)
@@ -291,20 +303,37 @@ module _ (core : ℕ) (r ps ns ms q : List ℕ) (queued : ℕ) (tops firsts : Li
             subst (λ (v : ℕ). (getD ps v 0 ≡ getD (o .threads .partitions) v 0) × (getD ms v 0 ≡ getD (o .threads .masks) v 0)) (sym e) (a ∙ x, c ∙ z)
         at (no n) = let (a, b, c) = others-set u n in (a, c)
 
-    pub set-asks : getD r t 0 ≡ 1 → (t < 64) × Lined ps q queued core × Changed core ps ns ms line tops firsts set₀ t
-    set-asks e =
-        let queued-was : member t line₀ ≡ true = sym flag-is ∙ eq-eqb (getD r t 0) 1 e in
-        let old-kept = kept-as core ps (o .threads .priorities) ms (o .threads .partitions) (o .threads .priorities) (o .threads .masks) line₀ tops firsts set₀ (λ u m. (placed u .0, refl, placed u .1)) (h .kept) in (
-          set-inside,
-          walkable (λ u m. fits u (subst (λ (l : List ℕ). member u l ≡ true) same-line m)),
-          record {
-            queued = ap (member t) same-line ∙ queued-was;
-            partition = rw (placed t .0) (was-valid t queued-was);
-            old = o .threads .priorities;
-            others = λ u n. others-set u n .1;
-            kept = subst (λ (l : List ℕ). KeptIn core ps (o .threads .priorities) ms l tops firsts set₀) (sym same-line) old-kept;
-          },
-        )
-      where
-        fits : (u : ℕ) → member u line₀ ≡ true → (u < 64) × (getD ps u 0 < 16)
-        fits u m = (settled .queue .inside u m, rw (placed u .0) (was-valid u m))
+    module _ (e : getD r t 0 ≡ 1) where
+      on : thread s₀ t .ready ≡ true
+      on = sym flag-was ∙ eq-eqb (getD r t 0) 1 e
+
+      queued-was : member t line₀ ≡ true
+      queued-was = sym flag-is ∙ eq-eqb (getD r t 0) 1 e
+
+      moved-line : line ≡ requeued true (getD (o .threads .priorities) t 0) (getD ns t 0) t line₀
+      moved-line =
+          h .line ∙ line-set
+          ∙ (λ i. requeued (on i) (was-in t .1 i) (sym (now-in t new own .1) i) t line₀)
+
+      fits : (u : ℕ) → member u line ≡ true → (u < 64) × (getD ps u 0 < 16)
+      fits u m =
+          let m₀ : member u line₀ ≡ true =
+          sym (ap (member u) moved-line ∙ requeued-member u t true (getD (o .threads .priorities) t 0) (getD ns t 0) line₀ queued-was) ∙ m in
+          (settled .queue .inside u m₀, rw (placed u .0) (was-valid u m₀))
+
+      pub set-asks : (t < 64) × Lined ps q queued core × Changed core ps ns ms line tops firsts set₀ t
+      set-asks = (
+        set-inside,
+        walkable fits,
+        record {
+          partition = rw (placed t .0) (was-valid t queued-was);
+          old = o .threads .priorities;
+          old-line = line₀;
+          queued = queued-was;
+          others = λ u n. others-set u n .1;
+          moved = moved-line;
+          kept =
+              kept-as core ps (o .threads .priorities) ms (o .threads .partitions) (o .threads .priorities) (o .threads .masks) line₀ tops firsts set₀
+              (λ u m. (placed u .0, refl, placed u .1)) (h .kept);
+        },
+      )

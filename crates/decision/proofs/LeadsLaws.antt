@@ -7,23 +7,22 @@ use mathlib.Core.Bool.{Bool, true, false, not, cond, _&&_, _||_, and-true, and-f
 use mathlib.Core.List.{List, [], _∷_, _++_, append-nil}
 use lib.ListN.{length, getD, set, take, drop, replicate, length-set}
 use lib.Seq.{getD-set-same, getD-set-other, take-add}
-use lib.Dec.{eqb}
+use lib.Dec.{eqb, ltb}
 use native.Mathlib.Omega.{arith}
 use native.Mathlib.Decide.{ℕ-discrete}
 use borrow.Author.Tests.{eq-eqb, ne-eqb, lt-ltb, le-ltb, eqb-true, eqb-false, not-true}
 use Rattle.lists.specs.Lists.{any, keep, first, member, consIf}
 use Rattle.lists.proofs.Tests.{clash, both}
-use Rattle.lists.proofs.All.{any-member, member-keep, maximum-high, keep-append, keep-both, without-none}
+use Rattle.lists.proofs.All.{member-keep, keep-append, keep-both, without-none}
 use Rattle.lists.proofs.Loops.{keep-more, keep-take}
 use Rattle.sets.specs.Bits.{inSet, Put, TakenOut, Only, Marked, Lowest}
 use Rattle.sets.proofs.Laws as bits
 use Rattle.model.specs.State.{allows, mayRun}
-use Rattle.model.specs.Step.{leaves, toTail}
+use Rattle.model.specs.Step.{leaves, toTail, toHead, requeued}
 use Rattle.decision.specs.Leads.{topOf, anyOf, levelOf, leadIn, raisedBy, numbers, runnable}
 use Rattle.decision.specs.Keeping.{Right, RightAt, KeptIn, Stale, Left, Changed, Joins}
 use Rattle.decision.specs.declared.leads.Lead.{Lead}
-use Rattle.decision.proofs.LeadsKept.{lead-in}
-use Rattle.decision.proofs.ListLeads.{lead-more, lead-stop, keep-same, lead-same, lead-left, level-left, lead-tail, level-tail, lead-above, lead-below, level-changed}
+use Rattle.decision.proofs.ListLeads.{lead-more, lead-stop, keep-same, lead-same, lead-left, level-left, lead-tail, level-tail, changed-any, changed-above, changed-level, changed-first, changed-other}
 
 -- ---- one partition
 
@@ -74,6 +73,19 @@ module _ (core : ℕ) (ps ms : List ℕ) (p : ℕ) where
   pub runnable-in : (line : List ℕ) (t : ℕ) → mine t ≡ true → runnable core ps ms p (line ++ (t ∷ [])) ≡ runnable core ps ms p line ++ (t ∷ [])
   unfolding runnable
   runnable-in line t e = keep-more mine line t ∙ ap (λ (z : Bool). keep mine line ++ consIf z t []) e
+
+  -- a thread that is not the partition's, or that the core may not run
+  outside : (line : List ℕ) (t : ℕ) → mine t ≡ false → member t (runnable core ps ms p line) ≡ false
+  unfolding runnable
+  outside line t e = member-keep mine line t ∙ ap (λ (z : Bool). member t line && z) e ∙ and-false (member t line)
+
+  outside-left : (line : List ℕ) (t : ℕ) → mine t ≡ false → leaves (runnable core ps ms p line) t ≡ runnable core ps ms p line
+  unfolding leaves
+  outside-left line t e = without-none (runnable core ps ms p line) t (outside line t e)
+
+  runnable-head : (line : List ℕ) (t : ℕ) → runnable core ps ms p (t ∷ line) ≡ consIf (mine t) t (runnable core ps ms p line)
+  unfolding runnable keep
+  runnable-head line t = refl
 
   pub runnable-join : (a b : List ℕ) → runnable core ps ms p (a ++ b) ≡ runnable core ps ms p a ++ runnable core ps ms p b
   unfolding runnable
@@ -332,9 +344,7 @@ module _ (core : ℕ) (ps ns ms ps₀ ns₀ ms₀ : List ℕ) (t : ℕ) (same : 
           same u (eqb-false u t (not-true (eqb u t) b)) .1
 
   not-of : (q : ℕ) (line : List ℕ) → getD ps₀ t 0 ≢ q → leaves (runnable core ps₀ ms₀ q line) t ≡ runnable core ps₀ ms₀ q line
-  unfolding runnable leaves
-  not-of q line n = without-none (keep (mine core ps₀ ms₀ q) line) t
-      (member-keep (mine core ps₀ ms₀ q) line t ∙ ap (λ (z : Bool). member t line && (z && allows (getD ms₀ t 0) core)) (ne-eqb (getD ps₀ t 0) q n) ∙ and-false (member t line))
+  not-of q line n = outside-left core ps₀ ms₀ q line t (ap (λ (z : Bool). z && allows (getD ms₀ t 0) core) (ne-eqb (getD ps₀ t 0) q n))
 
   pub left-kept : (line tops firsts : List ℕ) (set₀ : ℕ) → getD ps₀ t 0 < 16 → KeptIn core ps₀ ns₀ ms₀ line tops firsts set₀
       → Left core ps ns ms (leaves line t) tops firsts set₀ (getD ps₀ t 0) t
@@ -405,12 +415,49 @@ module _ (core : ℕ) (ps ns ms line tops firsts : List ℕ) (set₀ t : ℕ) (q
 
 -- ---- a priority changed
 
+-- what a partition may run, after it
+module _ (core : ℕ) (ps ms line : List ℕ) (t q m n : ℕ) where
+  abbrev of-q : List ℕ
+  of-q = runnable core ps ms q line
+
+  gone : runnable core ps ms q (leaves line t) ≡ leaves of-q t
+  gone = runnable-left core ps [] ms ps [] ms t (λ u d. (refl, refl, refl)) q line
+
+  -- the thread goes to the tail or to the head of these too
+  requeued-in : mine core ps ms q t ≡ true → runnable core ps ms q (requeued true m n t line) ≡ requeued true m n t of-q
+  unfolding requeued
+  requeued-in e = go (ltb m n) (ltb n m)
+    where
+      head : runnable core ps ms q (toHead line t) ≡ t ∷ runnable core ps ms q (leaves line t)
+      head = runnable-head core ps ms q (leaves line t) t ∙ ap (λ (z : Bool). consIf z t (runnable core ps ms q (leaves line t))) e
+
+      go : (x y : Bool) → runnable core ps ms q (cond x (toTail line t) (cond y (toHead line t) line)) ≡ cond x (toTail of-q t) (cond y (toHead of-q t) of-q)
+      go true y = runnable-in core ps ms q (leaves line t) t e ∙ ap (λ (l : List ℕ). l ++ (t ∷ [])) gone
+      go false true = head ∙ ap (λ (l : List ℕ). t ∷ l) gone
+      go false false = refl
+
+  -- or it is none of them
+  requeued-out : mine core ps ms q t ≡ false → runnable core ps ms q (requeued true m n t line) ≡ of-q
+  unfolding requeued
+  requeued-out e = go (ltb m n) (ltb n m)
+    where
+      rest : runnable core ps ms q (leaves line t) ≡ of-q
+      rest = gone ∙ outside-left core ps ms q line t e
+
+      head : runnable core ps ms q (toHead line t) ≡ runnable core ps ms q (leaves line t)
+      head = runnable-head core ps ms q (leaves line t) t ∙ ap (λ (z : Bool). consIf z t (runnable core ps ms q (leaves line t))) e
+
+      go : (x y : Bool) → runnable core ps ms q (cond x (toTail line t) (cond y (toHead line t) line)) ≡ of-q
+      go true y = runnable-out core ps ms q (leaves line t) t e ∙ rest
+      go false true = head ∙ rest
+      go false false = refl
+
 module _ (core : ℕ) (ps ns ms line tops firsts : List ℕ) (set₀ t : ℕ) (h : Changed core ps ns ms line tops firsts set₀ t) where
   abbrev p : ℕ
   p = getD ps t 0
 
   abbrev l : List ℕ
-  l = runnable core ps ms p line
+  l = runnable core ps ms p (h .old-line)
 
   abbrev f : ℕ → ℕ
   f = numbers ns
@@ -422,42 +469,45 @@ module _ (core : ℕ) (ps ns ms line tops firsts : List ℕ) (set₀ t : ℕ) (h
   was = h .kept .right p (h .partition)
 
   -- where the thread is none of them
-  unchanged : (q : ℕ) → q < 16 → member t (runnable core ps ms q line) ≡ false → RightAt core ps ns ms line tops firsts set₀ q
-  unchanged q b n =
-      right-as g f (runnable core ps ms q line) (runnable core ps ms q line) tops firsts set₀ q
-      (lead-same f g (runnable core ps ms q line) (λ u m. h .others u (λ e. clash m (subst (λ (v : ℕ). member v (runnable core ps ms q line) ≡ false) (sym e) n)))) refl (h .kept .right q b)
-
-  outside : (q : ℕ) → mayRun (getD ps t 0) (getD ms t 0) q core ≡ false → member t (runnable core ps ms q line) ≡ false
-  unfolding runnable
-  outside q e = member-keep (mine core ps ms q) line t ∙ ap (λ (z : Bool). member t line && z) e ∙ and-false (member t line)
+  unchanged : (q : ℕ) → q < 16 → mine core ps ms q t ≡ false → RightAt core ps ns ms line tops firsts set₀ q
+  unchanged q b e =
+      let k = runnable core ps ms q (h .old-line) in
+      let as-was : runnable core ps ms q line ≡ k = ap (runnable core ps ms q) (h .moved) ∙ requeued-out core ps ms (h .old-line) t q (g t) (f t) e in
+      right-as g f k (runnable core ps ms q line) tops firsts set₀ q
+      (ap (leadIn f) as-was ∙ lead-same f g k (λ u m. h .others u (λ w. clash m (subst (λ (v : ℕ). member v k ≡ false) (sym w) (outside core ps ms q (h .old-line) t e))))) (ap anyOf as-was) (h .kept .right q b)
 
   other : (q : ℕ) → q < 16 → q ≢ p → RightAt core ps ns ms line tops firsts set₀ q
-  other q b n = unchanged q b (outside q (ap (λ (z : Bool). z && allows (getD ms t 0) core) (ne-eqb (getD ps t 0) q (λ e. n (sym e)))))
+  other q b n = unchanged q b (not-mine core ps ns ms tops firsts set₀ t q (λ e. n (sym e)))
 
   pub change-none : allows (getD ms t 0) core ≡ false → KeptIn core ps ns ms line tops firsts set₀
   change-none e = record {
     wide = h .kept .wide;
     long = h .kept .long;
-    right = λ q b. unchanged q b (outside q (ap (λ (z : Bool). eqb (getD ps t 0) q && z) e ∙ and-false (eqb (getD ps t 0) q)));
+    right = λ q b. unchanged q b (ap (λ (z : Bool). eqb (getD ps t 0) q && z) e ∙ and-false (eqb (getD ps t 0) q));
   }
 
   module _ (ok : allows (getD ms t 0) core ≡ true) where
+    mine-own : mine core ps ms p t ≡ true
+    mine-own = rw (eq-eqb p p refl, ok)
+
     there : member t l ≡ true
     unfolding runnable
-    there = member-keep (mine core ps ms p) line t ∙ rw (h .queued, eq-eqb p p refl, ok)
+    there = member-keep (mine core ps ms p) (h .old-line) t ∙ rw (h .queued, mine-own)
 
-    some : anyOf l ≡ true
-    some = any-member (λ x. true) l t there refl
+    now-is : runnable core ps ms p line ≡ requeued true (g t) (f t) t l
+    now-is = ap (runnable core ps ms p) (h .moved) ∙ requeued-in core ps ms (h .old-line) t p (g t) (f t) mine-own
 
-    top-was : getD tops p 0 ≡ topOf g l + 1
-    unfolding levelOf
-    top-was = was .top ∙ ap (λ (z : Bool). cond z (topOf g l + 1) 0) some
+    any-is : anyOf (runnable core ps ms p line) ≡ anyOf l
+    any-is = ap anyOf now-is ∙ changed-any f g l t there (h .others)
 
-    keeps : Right f l tops firsts set₀ p → KeptIn core ps ns ms line tops firsts set₀
-    keeps r = record { wide = h .kept .wide; long = h .kept .long; right = λ q b. at q b (ℕ-discrete q p) }
+    -- the lead stays
+    stays : leadIn f (requeued true (g t) (f t) t l) ≡ leadIn g l → KeptIn core ps ns ms line tops firsts set₀
+    stays e = record { wide = h .kept .wide; long = h .kept .long; right = λ q b. at q b (ℕ-discrete q p) }
       where
         at : (q : ℕ) → q < 16 → Dec (q ≡ p) → RightAt core ps ns ms line tops firsts set₀ q
-        at q b (yes e) = subst (λ (j : ℕ). RightAt core ps ns ms line tops firsts set₀ j) (sym e) r
+        at q b (yes w) =
+            subst (λ (j : ℕ). RightAt core ps ns ms line tops firsts set₀ j) (sym w)
+            (right-as g f l (runnable core ps ms p line) tops firsts set₀ p (ap (leadIn f) now-is ∙ e) any-is was)
         at q b (no n) = other q b n
 
     -- it leads
@@ -468,31 +518,23 @@ module _ (core : ℕ) (ps ns ms line tops firsts : List ℕ) (set₀ t : ℕ) (h
       right = λ q b. at q b (ℕ-discrete q p);
     }
       where
-        new : _≡_ {A = Lead} (record { top = getD ns t 0 + 1; first = t }) (leadIn f l)
-        new = sym (lead-above f g l t there (λ u m n. omega (arith, up, top-was, h .others u n, maximum-high g l u m)))
+        new : _≡_ {A = Lead} (record { top = getD ns t 0 + 1; first = t }) (leadIn f (runnable core ps ms p line))
+        new = sym (ap (leadIn f) now-is ∙ changed-above f g l t there (h .others) (omega (arith, up, was .top)))
 
         at : (q : ℕ) → q < 16 → Dec (q ≡ p) → RightAt core ps ns ms line (set tops p (getD ns t 0 + 1)) (set firsts p t) set₀ q
         at q b (yes e) =
             subst (λ (j : ℕ). RightAt core ps ns ms line (set tops p (getD ns t 0 + 1)) (set firsts p t) set₀ j) (sym e)
-            (right-here f l tops firsts set₀ p (getD ns t 0 + 1) t (h .kept .wide) (h .kept .long) (h .partition) new (was .competes))
+            (right-here f (runnable core ps ms p line) tops firsts set₀ p (getD ns t 0 + 1) t (h .kept .wide) (h .kept .long) (h .partition) new
+            (was .competes ∙ sym any-is))
         at q b (no n) = right-other f (runnable core ps ms q line) tops firsts set₀ p (getD ns t 0 + 1) t set₀ q n refl (other q b n)
 
-    -- it was not the first, and stays below it
-    pub change-low : getD firsts p 0 ≢ t → getD ns t 0 + 1 < getD tops p 0 → KeptIn core ps ns ms line tops firsts set₀
-    change-low n low =
-        keeps (right-as g f l l tops firsts set₀ p (lead-below f g l t (h .others) some (λ e. n (was .thread ∙ e)) (omega (arith, low, top-was))) refl was)
+    -- it was not the first, and is not above it
+    pub change-other : getD ns t 0 + 1 ≤ getD tops p 0 → getD firsts p 0 ≢ t → KeptIn core ps ns ms line tops firsts set₀
+    change-other low n = stays (changed-other f g l t there (h .others) (λ e. n (was .thread ∙ e)) (omega (arith, low, was .top)))
 
     -- it was the first, and has the priority that it had
     pub change-same : getD firsts p 0 ≡ t → getD ns t 0 + 1 ≡ getD tops p 0 → KeptIn core ps ns ms line tops firsts set₀
-    change-same e s =
-        let (i, level) = lead-in g l some in
-        let mine-was : g t ≡ topOf g l = ap g (sym e ∙ was .thread) ∙ level in
-        let as-was : f t ≡ g t = omega (arith, mine-was, s, top-was) in
-        keeps (right-as g f l l tops firsts set₀ p (lead-same f g l (λ u m. each u as-was (ℕ-discrete u t))) refl was)
-      where
-        each : (u : ℕ) → f t ≡ g t → Dec (u ≡ t) → f u ≡ g u
-        each u q (yes w) = ap f w ∙ q ∙ ap g (sym w)
-        each u q (no n) = h .others u n
+    change-same e s = stays (changed-first f g l t there (h .others) (sym (was .thread) ∙ e) (s ∙ was .top))
 
     -- otherwise its partition is to be walked anew
     pub change-stale : getD ns t 0 + 1 ≤ getD tops p 0 → (stale : ℕ) → Only 16 p stale → Stale core ps ns ms line tops firsts set₀ stale
@@ -502,26 +544,5 @@ module _ (core : ℕ) (ps ns ms line tops firsts : List ℕ) (set₀ t : ℕ) (h
       right = λ q b z. other q b (λ e. clash (o q b ∙ eq-eqb q p e) z);
       below = λ q b z.
           subst (λ (j : ℕ). levelOf f (runnable core ps ms j line) ≤ getD tops j 0) (sym (eqb-true q p (sym (o q b) ∙ z)))
-          (level-changed f g l t (h .others) (getD tops p 0) (omega (arith, was .top)) low);
+          (rw (now-is, was .top) (changed-level f g l t there (h .others) (omega (arith, low, was .top))));
     }
-
-    -- the lead stays
-    pub change-stay : getD ns t 0 + 1 ≤ getD tops p 0 → cond (eqb (getD firsts p 0) t) (eqb (getD ns t 0 + 1) (getD tops p 0)) (not (eqb (getD ns t 0 + 1) (getD tops p 0))) ≡ true
-        → KeptIn core ps ns ms line tops firsts set₀
-    change-stay low e = go (ℕ-discrete (getD firsts p 0) t) e
-      where
-        at : Bool → Bool
-        at z = cond z (eqb (getD ns t 0 + 1) (getD tops p 0)) (not (eqb (getD ns t 0 + 1) (getD tops p 0)))
-
-        below : getD ns t 0 + 1 ≢ getD tops p 0 → getD ns t 0 + 1 < getD tops p 0
-        below m = apart (ℕ-discrete (getD ns t 0 + 1) (getD tops p 0))
-          where
-            apart : Dec (getD ns t 0 + 1 ≡ getD tops p 0) → getD ns t 0 + 1 < getD tops p 0
-            apart (yes q) = absurd (m q)
-            apart (no q) = omega (arith, low)
-
-        go : Dec (getD firsts p 0 ≡ t) → at (eqb (getD firsts p 0) t) ≡ true → KeptIn core ps ns ms line tops firsts set₀
-        go (yes s) f = change-same s (eqb-true (getD ns t 0 + 1) (getD tops p 0) (sym (ap at (eq-eqb (getD firsts p 0) t s)) ∙ f))
-        go (no n) f =
-            let m = eqb-false (getD ns t 0 + 1) (getD tops p 0) (not-true (eqb (getD ns t 0 + 1) (getD tops p 0)) (sym (ap at (ne-eqb (getD firsts p 0) t n)) ∙ f)) in
-            change-low n (below m)

@@ -1,18 +1,19 @@
 -- The lead of a list of threads: with one more at its end, with a rest that changes nothing, without a thread, with a thread at its end instead,
--- with other priorities.
+-- with another priority of a thread, which went where that puts it.
 use mathlib.Core.Logic.{_≢_}
 use mathlib.Core.Path.{_≡_, refl, sym, ap, ap₂, subst, _∙_}
 use Prim.Native.Nat.{ℕ, _+_, _≤_, _<_}
-use mathlib.Core.Bool.{Bool, true, false, not, cond, _&&_, or-true, and-true, and-false}
+use mathlib.Core.Bool.{Bool, true, false, not, cond, or-true}
 use mathlib.Core.List.{List, [], _∷_, _++_, map, append-assoc, append-nil}
 use lib.Dec.{eqb, ltb}
 use native.Mathlib.Omega.{arith}
 use native.Mathlib.Decide.{ℕ-discrete, decLt}
-use borrow.Author.Tests.{eq-eqb, ne-eqb, lt-ltb, le-ltb, ltb-true}
+use borrow.Author.Tests.{eq-eqb, ne-eqb, lt-ltb, le-ltb, ltb-true, eqb-false, not-true}
 use Rattle.lists.specs.Lists.{any, keep, first, maximum, member, consIf}
 use Rattle.lists.proofs.Tests.{clash, both}
-use Rattle.lists.proofs.All.{any-member, member-keep, maximum-high, maximum-found, keep-both}
-use Rattle.model.specs.Step.{leaves, toTail}
+use Rattle.lists.proofs.All.{any-member, member-keep, maximum-high, maximum-found}
+use Rattle.model.specs.Step.{leaves, toTail, toHead, requeued}
+use Rattle.model.proofs.Ahead.{requeued-raised, requeued-lowered, requeued-same, requeued-member}
 use Rattle.decision.specs.Leads.{topOf, leadOf, anyOf, levelOf, leadIn, raisedBy}
 use Rattle.decision.specs.declared.leads.Lead.{Lead}
 use Rattle.decision.proofs.LeadsKept.{lead-in, top-joined, lead-stays, lead-new, top-kept, lead-kept}
@@ -177,16 +178,20 @@ module _ (f : ℕ → ℕ) (l : List ℕ) (t : ℕ) (m : member t l ≡ true) wh
       go true = own-level
       go false = level-left f l t
 
--- ---- one priority changed
+-- ---- one priority changed, and its thread went where that puts it
 
-first-other : (k : List ℕ) (t : ℕ) → first k 255 ≢ t → first (keep (λ u. not (eqb u t)) k) 255 ≡ first k 255
-unfolding keep first
-first-other [] t n = refl
-first-other (x ∷ k) t n = rw (ne-eqb x t n)
+-- a thread below the top is not the lead at the head either
+module _ (f : ℕ → ℕ) (l : List ℕ) (t : ℕ) where
+  pub lead-head : f t < topOf f l → anyOf l ≡ true → leadIn f (t ∷ l) ≡ leadIn f l
+  unfolding levelOf any maximum keep first
+  lead-head low some =
+      let top : topOf f (t ∷ l) ≡ topOf f l = omega (arith, low) in
+      ap₂ lead (ap (λ (n : ℕ). n + 1) top ∙ sym (level-some f l some))
+      (ap (λ (n : ℕ). first (keep (λ u. eqb (f u) n) (t ∷ l)) 255) top
+      ∙ ap (λ (z : Bool). first (consIf z t (keep (λ u. eqb (f u) (topOf f l)) l)) 255) (ne-eqb (f t) (topOf f l) (λ q. let w : ⊥ = omega (arith, low, q) in absurd w)))
 
-module _ (f g : ℕ → ℕ) (l : List ℕ) (t : ℕ) where
   -- above all others it leads
-  pub lead-above : member t l ≡ true → ((u : ℕ) → member u l ≡ true → u ≢ t → f u < f t) → leadIn f l ≡ lead (f t + 1) t
+  lead-above : member t l ≡ true → ((u : ℕ) → member u l ≡ true → u ≢ t → f u < f t) → leadIn f l ≡ lead (f t + 1) t
   lead-above m high =
       let some : anyOf l ≡ true = any-member (λ x. true) l t m refl in
       let (there, level) = lead-in f l some in
@@ -202,45 +207,84 @@ module _ (f g : ℕ → ℕ) (l : List ℕ) (t : ℕ) where
           go (yes e) = e
           go (no n) = let k = high u i n in let w : ⊥ = omega (arith, h, k) in absurd w
 
-  module _ (same : (u : ℕ) → u ≢ t → f u ≡ g u) where
-    -- below the top, and not the first before: nothing changes
-    pub lead-below : anyOf l ≡ true → leadOf g l ≢ t → f t < topOf g l → leadIn f l ≡ leadIn g l
-    lead-below some n low =
-        let (there, level) = lead-in g l some in
-        let v = maximum-found f l some in
-        let high : topOf f l ≤ topOf g l = rw (← v .2) (each (v .0) (v .1) (ℕ-discrete (v .0) t)) in
-        let back : topOf g l ≤ topOf f l = omega (arith, maximum-high f l (leadOf g l) there, same (leadOf g l) n, level) in
-        let top : topOf f l ≡ topOf g l = omega (arith, high, back) in
-        let kept : keep (λ u. eqb (f u) (topOf g l)) l ≡ keep (λ u. not (eqb u t)) (keep (λ u. eqb (g u) (topOf g l)) l) =
-        sym (keep-both (λ u. eqb (g u) (topOf g l)) (λ u. not (eqb u t)) (λ u. eqb (f u) (topOf g l)) (λ u. at u (ℕ-discrete u t)) l) in
-        ap₂ lead (level-some f l some ∙ ap (λ (k : ℕ). k + 1) top ∙ sym (level-some g l some))
-        (ap (λ (k : ℕ). first (keep (λ u. eqb (f u) k) l) 255) top ∙ ap (λ (k : List ℕ). first k 255) kept
-        ∙ first-other (keep (λ u. eqb (g u) (topOf g l)) l) t n)
-      where
-        each : (u : ℕ) → member u l ≡ true → Dec (u ≡ t) → f u ≤ topOf g l
-        each u m (yes e) = rw e (omega (arith, low))
-        each u m (no k) = omega (arith, maximum-high g l u m, same u k)
+-- no thread of the list is above c
+level-within : (f : ℕ → ℕ) (l : List ℕ) (c : ℕ) → ((u : ℕ) → member u l ≡ true → f u + 1 ≤ c) → levelOf f l ≤ c
+unfolding levelOf
+level-within f l c each = go (anyOf l) refl
+  where
+    go : (z : Bool) → anyOf l ≡ z → cond z (topOf f l + 1) 0 ≤ c
+    go true e = let v = maximum-found f l e in rw (← v .2) (each (v .0) (v .1))
+    go false e = omega arith
 
-        at : (u : ℕ) → Dec (u ≡ t) → eqb (f u) (topOf g l) ≡ (eqb (g u) (topOf g l) && not (eqb u t))
-        at u (yes e) =
-            rw e (ne-eqb (f t) (topOf g l) (λ q. let w : ⊥ = omega (arith, low, q) in absurd w)
-            ∙ sym (ap (λ (z : Bool). eqb (g t) (topOf g l) && not z) (eq-eqb t t refl) ∙ and-false (eqb (g t) (topOf g l))))
-        at u (no k) =
-            ap (λ (j : ℕ). eqb j (topOf g l)) (same u k)
-            ∙ sym (ap (λ (z : Bool). eqb (g u) (topOf g l) && not z) (ne-eqb u t k) ∙ and-true (eqb (g u) (topOf g l)))
+module _ (f g : ℕ → ℕ) (l : List ℕ) (t : ℕ) (m : member t l ≡ true) (same : (u : ℕ) → u ≢ t → f u ≡ g u) where
+  -- the list after it
+  abbrev moved : List ℕ
+  moved = requeued true (g t) (f t) t l
 
-    -- it is bounded by what it was and by the new priority
-    pub level-changed : (c : ℕ) → levelOf g l ≤ c → f t + 1 ≤ c → levelOf f l ≤ c
-    unfolding levelOf
-    level-changed c low new = go (anyOf l) refl
-      where
-        each : anyOf l ≡ true → topOf g l + 1 ≤ c → (u : ℕ) → member u l ≡ true → Dec (u ≡ t) → f u + 1 ≤ c
-        each some h u m (yes e) = rw e new
-        each some h u m (no k) = omega (arith, h, maximum-high g l u m, same u k)
+  in-moved : (u : ℕ) → member u moved ≡ member u l
+  in-moved u = requeued-member u t true (g t) (f t) l m
 
-        go : (z : Bool) → anyOf l ≡ z → cond z (topOf f l + 1) 0 ≤ c
-        go true e =
-            let v = maximum-found f l e in
-            let h : topOf g l + 1 ≤ c = rw (← level-some g l e) low in
-            rw (← v .2) (each e h (v .0) (v .1) (ℕ-discrete (v .0) t))
-        go false e = omega arith
+  some : anyOf l ≡ true
+  some = any-member (λ x. true) l t m refl
+
+  pub changed-any : anyOf moved ≡ anyOf l
+  changed-any = any-member (λ x. true) moved t (in-moved t ∙ m) refl ∙ sym some
+
+  level-was : levelOf g l ≡ topOf g l + 1
+  level-was = level-some g l some
+
+  -- above the top of before it leads
+  pub changed-above : levelOf g l < f t + 1 → leadIn f moved ≡ lead (f t + 1) t
+  changed-above up =
+      lead-above f moved t (in-moved t ∙ m)
+      (λ u i n. omega (arith, up, level-was, same u n, maximum-high g l u (sym (in-moved u) ∙ i)))
+
+  -- the level is bounded by what it was and by the new priority
+  pub changed-level : f t + 1 ≤ levelOf g l → levelOf f moved ≤ levelOf g l
+  changed-level low = level-within f moved (levelOf g l) (λ u i. at u (sym (in-moved u) ∙ i) (ℕ-discrete u t))
+    where
+      at : (u : ℕ) → member u l ≡ true → Dec (u ≡ t) → f u + 1 ≤ levelOf g l
+      at u i (yes e) = rw e low
+      at u i (no n) = omega (arith, level-was, same u n, maximum-high g l u i)
+
+  -- at the priority that it had, nothing changes
+  changed-none : g t ≡ f t → leadIn f moved ≡ leadIn g l
+  changed-none e = ap (leadIn f) (requeued-same true (g t) (f t) t l e) ∙ lead-same f g l (λ u i. at u (ℕ-discrete u t))
+    where
+      at : (u : ℕ) → Dec (u ≡ t) → f u ≡ g u
+      at u (yes w) = ap f w ∙ sym e ∙ ap g (sym w)
+      at u (no n) = same u n
+
+  -- the first thread at the level that it had
+  pub changed-first : leadOf g l ≡ t → f t + 1 ≡ levelOf g l → leadIn f moved ≡ leadIn g l
+  changed-first e s =
+      let level : g t ≡ topOf g l = ap g (sym e) ∙ lead-in g l some .1 in
+      changed-none (omega (arith, level, s, level-was))
+
+  -- another one, not above the top: it is behind the first, or below it
+  pub changed-other : leadOf g l ≢ t → f t + 1 ≤ levelOf g l → leadIn f moved ≡ leadIn g l
+  unfolding leaves raisedBy
+  changed-other n low = go (decLt (g t) (f t)) (decLt (f t) (g t))
+    where
+      rest : leadIn f (leaves l t) ≡ leadIn g l
+      rest =
+          lead-same f g (leaves l t) (λ u i. same u (eqb-false u t (not-true (eqb u t) (both (member u l) (not (eqb u t)) (sym (member-keep (λ v. not (eqb v t)) l u) ∙ i) .1))))
+          ∙ lead-left g l t n .0
+
+      any-rest : anyOf (leaves l t) ≡ true
+      any-rest = lead-left g l t n .1 ∙ some
+
+      raised : leadIn f (toTail l t) ≡ leadIn g l
+      raised =
+          lead-more f (leaves l t) t ∙ ap (λ (x : Lead). raisedBy x (f t) t) rest
+          ∙ ap (λ (z : Bool). cond z (lead (f t + 1) t) (leadIn g l)) (le-ltb (levelOf g l) (f t + 1) low)
+
+      lowered : f t < g t → leadIn f (toHead l t) ≡ leadIn g l
+      lowered h =
+          let top : topOf f (leaves l t) + 1 ≡ levelOf g l = sym (level-some f (leaves l t) any-rest) ∙ ap (λ (x : Lead). x .top) rest in
+          lead-head f (leaves l t) t (omega (arith, h, top, level-was, maximum-high g l t m)) any-rest ∙ rest
+
+      go : Dec (g t < f t) → Dec (f t < g t) → leadIn f moved ≡ leadIn g l
+      go (yes h) b = ap (leadIn f) (requeued-raised true (g t) (f t) t l refl h) ∙ raised
+      go (no h) (yes k) = ap (leadIn f) (requeued-lowered true (g t) (f t) t l refl k) ∙ lowered k
+      go (no h) (no k) = changed-none (omega arith)

@@ -52,7 +52,8 @@ pub record Followed (core : ℕ) (ready partitions priorities masks queue : List
   pub line : take queued queue ≡ queueOf (act (stateBefore before) bytes)
   pub kept : KeptIn core (before .threads .partitions) (before .threads .priorities) (before .threads .masks) (queueOf (stateBefore before)) tops firsts set
 
--- what is left of it where the event set a priority: by the thread's flag, the leads are right, or they were with its old priority
+-- what is left of it where the event set a priority: by the thread's flag, the leads are right, or they were with its old priority and
+-- its old place
 pub record FollowedPriority (core : ℕ) (ready partitions priorities masks queue : List ℕ) (queued : ℕ) (tops firsts : List ℕ) (set t : ℕ) : Type 0 where
   pub outside : getD ready t 0 ≢ 1 → KeptIn core partitions priorities masks (take queued queue) tops firsts set
   pub inside : getD ready t 0 ≡ 1

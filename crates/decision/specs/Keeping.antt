@@ -7,6 +7,7 @@ use mathlib.Core.List.{List, [], _∷_, _++_}
 use lib.ListN.{length, getD}
 use Rattle.lists.specs.Lists.{member}
 use Rattle.sets.specs.Bits.{inSet}
+use Rattle.model.specs.Step.{requeued}
 use Rattle.decision.specs.Leads.{leadOf, anyOf, levelOf, numbers, runnable}
 
 -- the numbers at p are the lead of the threads l with the priorities f
@@ -41,13 +42,15 @@ pub record Left (core : ℕ) (partitions priorities masks line tops firsts : Lis
   pub same : getD firsts p 0 ≢ t → RightAt core partitions priorities masks line tops firsts set p
   pub below : levelOf (numbers priorities) (runnable core partitions masks p line) ≤ getD tops p 0
 
--- after the priority of the queued thread t changed: they were right with its old one
+-- after the priority of the queued thread t changed, and it went where that puts it: they were right with the old priorities and the old line
 pub record Changed (core : ℕ) (partitions priorities masks line tops firsts : List ℕ) (set t : ℕ) : Type 0 where
-  pub queued : member t line ≡ true
   pub partition : getD partitions t 0 < 16
   pub old : List ℕ
+  pub old-line : List ℕ
+  pub queued : member t old-line ≡ true
   pub others : (u : ℕ) → u ≢ t → getD priorities u 0 ≡ getD old u 0
-  pub kept : KeptIn core partitions old masks line tops firsts set
+  pub moved : line ≡ requeued true (getD old t 0) (getD priorities t 0) t old-line
+  pub kept : KeptIn core partitions old masks old-line tops firsts set
 
 -- what a walk along the queue needs: its entries are thread numbers, and their partitions partition numbers
 pub record Lined (partitions queue : List ℕ) (queued core : ℕ) : Type 0 where

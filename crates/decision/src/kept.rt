@@ -121,7 +121,7 @@ pub fn follow_turn(
     )
 }
 
-// The leads after a changed priority: a thread that is not queued changes nothing.
+// The leads after a changed priority and the move that goes with it: a thread that is not queued changes nothing.
 fn follow_priority(
     tops: &mut [u16; 16],
     firsts: &mut [u8; 16],

@@ -1,7 +1,6 @@
 // What each partition would run, kept beside the ready queue: one more than its top priority, 0 where it does not compete, and the first thread
 // that has it, 255 where there is none.
 ghost use mathlib.Core.Path.{_≡_};
-ghost use mathlib.Core.Bool.{not, cond};
 ghost use Prim.Native.Nat.{_+_, _≤_, _<_};
 ghost use lib.ListN.{getD, take};
 ghost use Rattle.model.specs.State.{mayRun};
@@ -217,16 +216,9 @@ pub fn leave(
     )
 }
 
-// Whether a partition's lead stays when a thread's priority changes to one that is not above its top: the first thread, if it is at the top, and
-// any other, if it is below.
-fn stays(first: bool, top: bool) -> bool
-    ensures { λ r. ⌜ r ≡ cond first top (not top) ⌝ }
-{
-    (first & top) | (!first & !top)
-}
-
-// The priority of the queued thread t has changed. Above its partition's top it leads. Otherwise the lead stays, or the partition is walked anew:
-// where its first thread was lowered, or another came level with the first. Gives the set of competing partitions.
+// The priority of the queued thread t has changed, and with it its place: raised it went to the tail, lowered to the head. Above its partition's top
+// it leads. Otherwise the lead stays, for who came level with the first is behind it; only where the first thread itself was lowered the partition is
+// walked anew. Gives the set of competing partitions.
 pub fn change(
     tops: &mut [u16; 16],
     firsts: &mut [u8; 16],
@@ -262,8 +254,10 @@ pub fn change(
         firsts[here] = t;
         return competing;
     }
-    let first = firsts[here];
-    if stays(first == t, level == top) {
+    if firsts[here] != t {
+        return competing;
+    }
+    if level == top {
         return competing;
     }
     let stale = sets::only(p);

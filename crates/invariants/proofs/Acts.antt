@@ -13,10 +13,10 @@ use Rattle.model.specs.State.{absent, thread, queueOf, Thread, State}
 use Rattle.model.specs.Slices.{sliceFor}
 use Rattle.model.specs.Event
 use Rattle.model.specs.Event.{kindOf, threadOf, partitionOf, priorityOf, maskOf, policyOf}
-use Rattle.model.specs.Step.{withQueue, withThread, withReady, returned, withPriority, created, joins, goes, act, leaves}
+use Rattle.model.specs.Step.{withQueue, withThread, withReady, returned, withPriority, requeued, created, joins, goes, reprioritized, act, leaves}
 use Rattle.model.specs.Facts.{Settled, SliceFits, Proper, ReadyQueue, Named}
 use Rattle.model.proofs.Slices.{full-slice, slice-absent}
-use Rattle.invariants.proofs.Queues.{queue-is, stored, proper-set, queue-same, queue-joins, queue-leaves}
+use Rattle.invariants.proofs.Queues.{queue-is, stored, proper-set, queue-same, queue-joins, queue-leaves, queue-requeued}
 
 -- one thread's record changed, with the queue as it was or another one
 module _ (s : State) (h : List ℕ) (k : Settled s h) (sixty-four : length (s .threads) ≡ 64) (t : ℕ) (inside : t < 64) where
@@ -54,6 +54,12 @@ module _ (s : State) (h : List ℕ) (k : Settled s h) (sixty-four : length (s .t
   goes-settled : (r : Thread) → Proper (s .settings .count) r → r .ready ≡ false
       → Settled (withQueue (withThread s t r) (leaves (queueOf s) t)) h
   goes-settled r p rdy = new-queue r (leaves (queueOf s) t) p (queue-leaves (s .threads) t r here (queueOf s) (k .queue) rdy)
+
+  requeued-settled : (r : Thread) (old new : ℕ) → Proper (s .settings .count) r → r .ready ≡ thread s t .ready
+      → (r .ready ≡ true → r .exists ≡ true) → Settled (withQueue (withThread s t r) (requeued (thread s t .ready) old new t (queueOf s))) h
+  requeued-settled r old new p rdy ex =
+      new-queue r (requeued (thread s t .ready) old new t (queueOf s)) p
+      (queue-requeued (s .threads) t r here (thread s t .ready) old new (queueOf s) inside (k .queue) rdy (rdy ∙ k .queue .ready t inside) ex)
 
   -- an existing thread's record with another readiness or priority, and the slice that it had or a full one
   changed : (r : Thread) → thread s t .exists ≡ true → r .exists ≡ thread s t .exists → r .partition ≡ thread s t .partition
@@ -96,7 +102,7 @@ module _ (s : State) (b : List ℕ) where
       → (kindOf b ≡ Event.create → P (withThread s t new))
       → (kindOf b ≡ Event.ready → P (joins s t))
       → (kindOf b ≡ Event.block → P (goes s t (withReady was false)))
-      → (kindOf b ≡ Event.setPriority → P (withThread s t (withPriority was (priorityOf b))))
+      → (kindOf b ≡ Event.setPriority → P (reprioritized s t (priorityOf b)))
       → (kindOf b ≡ Event.end → P (goes s t absent))
       → (kindOf b ≢ Event.create → kindOf b ≢ Event.ready → kindOf b ≢ Event.block → kindOf b ≢ Event.setPriority → kindOf b ≢ Event.end → P s)
       → P (act s b)
@@ -128,7 +134,7 @@ module _ (s : State) (b : List ℕ) where
       goes-settled s h k len t i (withReady was false) (changed s h k len t i (withReady was false) e refl refl refl (k .proper t i .slice)) refl)
       (λ q. let (i, e) = there (omega arith) (omega arith) in
       let r : Thread = withPriority was (priorityOf b) in
-      same-queue s h k len t i r (changed s h k len t i r e refl refl refl (k .proper t i .slice)) refl (λ z. e))
+      requeued-settled s h k len t i r (was .priority) (priorityOf b) (changed s h k len t i r e refl refl refl (k .proper t i .slice)) refl (λ z. e))
       (λ q. let i : t < 64 = inside (omega arith) (omega arith) in
       goes-settled s h k len t i absent (record { partition = λ z. clash z refl; mask = λ z. clash z refl; slice = slice-absent; none = λ z. refl }) refl)
       (λ n₁ n₂ n₃ n₄ n₅. k)

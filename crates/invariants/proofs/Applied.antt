@@ -14,8 +14,8 @@ use Rattle.lists.specs.Lists.{member}
 use Rattle.model.specs.State.{absent, thread, queueOf, idle, wanted, Thread, State}
 use Rattle.model.specs.Slices.{counted}
 use Rattle.model.specs.Event
-use Rattle.model.specs.Event.{kindOf, threadOf, policyOf, stampOf, elapsedAt}
-use Rattle.model.specs.Step.{Saved, withThread, withQueue, leaves, billed, charge, next, moveSlot, turned, sliced, ticked, act, settle, restart, apply}
+use Rattle.model.specs.Event.{kindOf, threadOf, priorityOf, policyOf, stampOf, elapsedAt}
+use Rattle.model.specs.Step.{Saved, withThread, withQueue, leaves, requeued, billed, charge, next, moveSlot, turned, sliced, ticked, act, settle, restart, apply}
 use Rattle.model.specs.Typed.{Lengths, ThreadTyped, Bytes, Typed}
 use Rattle.model.specs.Facts.{Settled, Sound, Accepted, Named}
 use Rattle.model.proofs.Bounds.{next-inside}
@@ -44,9 +44,12 @@ module _ (s : State) (b : List ℕ) (h : List ℕ) (len : Lengths s) (n : Named 
       (λ q k. with-thread s len _ _)
       (λ q k. with-queue _ (queueOf s ++ (threadOf b ∷ [])) (with-thread s len _ _) (k .stored .few))
       (λ q k. with-queue _ (leaves (queueOf s) (threadOf b)) (with-thread s len _ _) (k .stored .few))
-      (λ q k. with-thread s len _ _)
+      (λ q k. with-queue _ (requeued (was .ready) (was .priority) (priorityOf b) (threadOf b) (queueOf s)) (with-thread s len _ _) (k .stored .few))
       (λ q k. with-queue _ (leaves (queueOf s) (threadOf b)) (with-thread s len _ _) (k .stored .few))
       (λ n₁ n₂ n₃ n₄ n₅ k. len)
+    where
+      was : Thread
+      was = thread s (threadOf b)
 
   act-threads : Bytes b → ((t : ℕ) → ThreadTyped (thread s t)) → (t : ℕ) → ThreadTyped (thread (act s b) t)
   act-threads y old = act-cases s b (λ s′. (t : ℕ) → ThreadTyped (thread s′ t))

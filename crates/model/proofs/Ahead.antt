@@ -1,15 +1,15 @@
 -- Which of two entries of a list comes first, and what changes of the ready queue leave of that.
 use mathlib.Core.Logic.{_≢_}
-use mathlib.Core.Path.{_≡_, refl, sym, _∙_}
+use mathlib.Core.Path.{_≡_, refl, sym, ap, _∙_}
 use Prim.Native.Nat.{ℕ, _≤_, _<_}
-use mathlib.Core.Bool.{Bool, true, false, not, cond, _&&_, _||_, and-false}
+use mathlib.Core.Bool.{Bool, true, false, not, cond, _&&_, _||_, and-true, and-false, or-false, or-comm}
 use mathlib.Core.List.{List, [], _∷_, _++_}
 use lib.Dec.{eqb, ltb}
 use borrow.Author.Tests.{eqb-true, eqb-false, eq-eqb, ne-eqb, lt-ltb, le-ltb}
 use native.Mathlib.Omega.{arith}
 use Rattle.lists.specs.Lists.{any, consIf, keep, member}
 use Rattle.lists.proofs.Tests.{clash}
-use Rattle.lists.proofs.All.{without, member-without}
+use Rattle.lists.proofs.All.{without, member-append, member-without}
 use Rattle.model.specs.Step.{leaves, toTail, toHead, requeued}
 
 -- of the entries a and b of the list, a is found first
@@ -112,6 +112,24 @@ module _ (on : Bool) (m n t : ℕ) (l : List ℕ) where
   pub requeued-unready : on ≡ false → requeued on m n t l ≡ l
   unfolding requeued
   requeued-unready e = rw e
+
+-- who is queued stays the same
+pub requeued-member : (u t : ℕ) (on : Bool) (m n : ℕ) (l : List ℕ) → member t l ≡ true → member u (requeued on m n t l) ≡ member u l
+unfolding requeued leaves any
+requeued-member u t on m n l i = go on (ltb m n) (ltb n m)
+  where
+    at : (z : Bool) → eqb u t ≡ z → (z || member u (without t l)) ≡ member u l
+    at true e = sym i ∙ ap (λ (v : ℕ). member v l) (sym (eqb-true u t e))
+    at false e = member-without l t u ∙ rw e (and-true (member u l))
+
+    tail : member u (toTail l t) ≡ member u l
+    tail = member-append u (without t l) (t ∷ []) ∙ rw (or-false (eqb u t)) (or-comm (member u (without t l)) (eqb u t) ∙ at (eqb u t) refl)
+
+    go : (z z₁ z₂ : Bool) → member u (cond z (cond z₁ (toTail l t) (cond z₂ (toHead l t) l)) l) ≡ member u l
+    go false z₁ z₂ = refl
+    go true true z₂ = tail
+    go true false true = at (eqb u t) refl
+    go true false false = refl
 
 -- and the order of two others is as it was, wherever a third goes when its priority changes
 pub requeued-ahead : (a b t : ℕ) (on : Bool) (m n : ℕ) (l : List ℕ) → t ≢ a → t ≢ b → ahead a b l ≡ true → ahead a b (requeued on m n t l) ≡ true

@@ -6,14 +6,14 @@ use mathlib.Core.Bool.{Bool, true, not, cond}
 use mathlib.Core.List.{List, [], _∷_, _++_}
 use lib.ListN.{length, getD, take, drop, length-append, length-take, length-drop}
 use lib.Seq.{length-take-le}
-use lib.Dec.{T}
+use lib.Dec.{T, eqb}
 use native.Mathlib.Omega.{arith}
 use native.Mathlib.Decide.{ℕ-discrete}
-use borrow.Author.Tests.{ne-eqb, eqb-false}
+use borrow.Author.Tests.{eq-eqb, ne-eqb, eqb-false}
 use denote.Enum.Declared.{tagOf}
 use mir.Val.{hasKey}
 use types.Run.{OneOf}
-use Rattle.lists.specs.Lists.{sum}
+use Rattle.lists.specs.Lists.{sum, member}
 use Rattle.lists.proofs.Tests.{clash}
 use Rattle.lists.proofs.Sums.{entry-le}
 use Rattle.lists.proofs.Parts.{row-end, part-at}
@@ -339,6 +339,13 @@ module _ (c : Settings) (u : List ℕ) (k : Clock) (ts : Columns) (q h budgets t
         let most : length (queueOf s ++ (threadOf b ∷ [])) ≤ 64 = subst (λ (i : State). i .queued ≤ 64) (act-ready s b is) (z .stored .few) in
         omega (arith, length-append (queueOf s) (threadOf b ∷ []), most, length-take-le (k .queued) q (omega (arith, settled .stored .few, g .full)))
 
+    -- a ready thread whose priority is set is queued
+    waits : kindOf b ≡ Event.setPriority → getD (ts .ready) (threadOf b) 0 ≡ 1 → member (threadOf b) (take (k .queued) q) ≡ true
+    waits is on =
+        let there : eqb (getD (ts .ready) (threadOf b) 0) 1 ≡ member (threadOf b) (queueOf s) =
+        ap (λ (t : Thread). t .ready) (sym (thread-at ts (threadOf b) inside)) ∙ settled .queue .ready (threadOf b) inside in
+        sym there ∙ eq-eqb (getD (ts .ready) (threadOf b) 0) 1 on
+
     pub able : Able ts q (k .queued) b
     able =
         record {
@@ -348,6 +355,7 @@ module _ (c : Settings) (u : List ℕ) (k : Clock) (ts : Columns) (q h budgets t
           few = settled .stored .few;
           once = settled .queue .once;
           free = free;
+          waits = waits;
         }
 
     abbrev withQueued : Clock → ℕ → Clock

@@ -5,7 +5,7 @@ use borrow.Author.Tests.{not-true, not-false}
 use denote.Ref.{now}
 use lib.ListN.{getD, take}
 use Rattle.model.specs.State.{allows}
-use Rattle.decision.proofs.LeadsLaws.{change-none, change-up, change-stay, change-stale}
+use Rattle.decision.proofs.LeadsLaws.{change-none, change-up, change-other, change-same, change-stale}
 use borrow.Author.Needs.{needs}
 use Rattle.decision.proofs.leads.change.Statement.{statement}
 use Rattle.decision.proofs.leads.change.Tie as tie
@@ -65,21 +65,24 @@ returns-2 c =
     let h : getD (now (a .tops)) (getD (now (a .partitions)) (a .t) 0) 0 < getD (now (a .priorities)) (a .t) 0 + 1 = rw level at (c .if2 .taken) in
     rw level (change-up (a .core) (now (a .partitions)) (now (a .priorities)) (now (a .masks)) (take (a .queued) (now (a .queue))) (now (a .tops)) (now (a .firsts)) (a .competing) (a .t) (start .pre .2) (fine d) h)
 
-element-copy-out-first : tie.Need-element-copy-out-first
-element-copy-out-first c = search needs
-
-stays-requires : tie.Need-stays-requires
-stays-requires c κs = search needs
+element-copy-out-if3 : tie.Need-element-copy-out-if3
+element-copy-out-if3 c = search needs
 
 returns-3 : tie.Need-returns-3
 returns-3 c =
+    let d = c .before .before .before .before in
+    let start = d .before .before .before .before .before .before in
+    let a = start .args in
+    let level = d .level-of .ensures in
+    change-other (a .core) (now (a .partitions)) (now (a .priorities)) (now (a .masks)) (take (a .queued) (now (a .queue))) (now (a .tops)) (now (a .firsts)) (a .competing) (a .t) (start .pre .2) (fine d) (rw level at (c .before .before .if2 .left)) (c .if3 .taken)
+
+returns-4 : tie.Need-returns-4
+returns-4 c =
     let d = c .before .before .before .before .before in
     let start = d .before .before .before .before .before .before in
     let a = start .args in
     let level = d .level-of .ensures in
-    let call = c .before .stays in
-    let told = rw level at (sym (call .ensures) ∙ c .if3 .taken) in
-    change-stay (a .core) (now (a .partitions)) (now (a .priorities)) (now (a .masks)) (take (a .queued) (now (a .queue))) (now (a .tops)) (now (a .firsts)) (a .competing) (a .t) (start .pre .2) (fine d) (rw level at (c .before .before .before .if2 .left)) told
+    change-same (a .core) (now (a .partitions)) (now (a .priorities)) (now (a .masks)) (take (a .queued) (now (a .queue))) (now (a .tops)) (now (a .firsts)) (a .competing) (a .t) (start .pre .2) (fine d) (c .before .if3 .left) (rw level at (c .if4 .taken))
 
 only-requires : tie.Need-only-requires
 only-requires c κs = search needs
@@ -93,8 +96,8 @@ renew-requires c κs =
     let only = c .before .before .only in
     (start .pre .1, change-stale (a .core) (now (a .partitions)) (now (a .priorities)) (now (a .masks)) (take (a .queued) (now (a .queue))) (now (a .tops)) (now (a .firsts)) (a .competing) (a .t) (start .pre .2) (fine d) (rw level at (c .before .before .before .before .before .before .if2 .left)) (only .result) (only .ensures))
 
-returns-4 : tie.Need-returns-4
-returns-4 c = search needs
+returns-5 : tie.Need-returns-5
+returns-5 c = search needs
 
 pub change-spec : {M : Type 1} → statement M
 change-spec =
@@ -113,9 +116,9 @@ change-spec =
     element-write-tops
     element-write-firsts
     returns-2
-    element-copy-out-first
-    stays-requires
+    element-copy-out-if3
     returns-3
+    returns-4
     only-requires
     renew-requires
-    returns-4)
+    returns-5)
