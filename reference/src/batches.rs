@@ -1,6 +1,5 @@
 //! The streams of the benchmark.
 
-use reference::streams::{answer, Case};
 use reference::{Kept, Scheduler, NO_THREAD, RECORD};
 
 const TICK: u32 = 1000;
@@ -47,16 +46,6 @@ impl Stream {
             lead,
             batch,
         }
-    }
-
-    /// The lines up to the point, every event accepted.
-    pub fn lines(&self) -> Vec<u8> {
-        let lines = answer(&Case {
-            sheet: self.sheet.clone(),
-            events: self.lead.clone(),
-        });
-        assert!(lines.chunks(RECORD).all(|line| line[..2] == *b"00"));
-        lines
     }
 
     /// How many of a hundred ticks of the batch end a slice, after the point

@@ -1,12 +1,12 @@
-//! The proved library as it was before time slices, for the benchmark: its
-//! state has neither policies nor slices. tools/bench gives its functions
-//! these names, so that one program has both libraries.
+//! The proved library as it was before changed priorities moved threads, for
+//! the benchmark: its state and its functions are the present ones'. tools/bench
+//! gives its functions these names, so that one program has both libraries.
 
 type Five = [u32; 5];
 type Words = [u32; 16];
 type Bytes = [u8; 64];
 
-/// The state of 552 bytes, part by part.
+/// The state of 680 bytes, part by part.
 #[repr(C)]
 #[derive(Clone, Copy)]
 pub struct State {
@@ -19,10 +19,12 @@ pub struct State {
     partitions: Bytes,
     priorities: Bytes,
     masks: Bytes,
+    policies: Bytes,
+    slices: Bytes,
     queue: Bytes,
 }
 
-const _: () = assert!(size_of::<State>() == 552);
+const _: () = assert!(size_of::<State>() == 680);
 
 extern "C" {
     fn before_lent_start(
@@ -37,6 +39,8 @@ extern "C" {
         partitions: &mut Bytes,
         priorities: &mut Bytes,
         masks: &mut Bytes,
+        policies: &mut Bytes,
+        slices: &mut Bytes,
         queue: &mut Bytes,
         history: *mut u32,
         history_length: u64,
@@ -51,6 +55,8 @@ extern "C" {
         partitions: &mut Bytes,
         priorities: &mut Bytes,
         masks: &mut Bytes,
+        policies: &mut Bytes,
+        slices: &mut Bytes,
         queue: &mut Bytes,
         history: *mut u32,
         history_length: u64,
@@ -67,6 +73,8 @@ extern "C" {
         partitions: &mut Bytes,
         priorities: &mut Bytes,
         masks: &mut Bytes,
+        policies: &mut Bytes,
+        slices: &mut Bytes,
         queue: &mut Bytes,
         history: *mut u32,
         history_length: u64,
@@ -95,6 +103,8 @@ impl State {
                 &mut state.partitions,
                 &mut state.priorities,
                 &mut state.masks,
+                &mut state.policies,
+                &mut state.slices,
                 &mut state.queue,
                 history.as_mut_ptr(),
                 history.len() as u64,
@@ -116,6 +126,8 @@ impl State {
                 &mut self.partitions,
                 &mut self.priorities,
                 &mut self.masks,
+                &mut self.policies,
+                &mut self.slices,
                 &mut self.queue,
                 history.as_mut_ptr(),
                 history.len() as u64,
@@ -138,6 +150,8 @@ impl State {
                 &mut self.partitions,
                 &mut self.priorities,
                 &mut self.masks,
+                &mut self.policies,
+                &mut self.slices,
                 &mut self.queue,
                 history.as_mut_ptr(),
                 history.len() as u64,

@@ -18,7 +18,9 @@
 //! libraries lie at each place that a line of the cache has for them.
 //!
 //! Built with `--cfg against` it links the library of the commit before too,
-//! and takes its runs and single events in turns with the others.
+//! and takes its runs and single events in turns with the others. It gets the
+//! same events, and its lines are other ones: there a new priority leaves a
+//! thread in its place.
 
 mod batches;
 #[cfg(against)]
@@ -28,7 +30,7 @@ mod proved;
 
 use batches::{Point, Stream, EVENTS, RUN};
 #[cfg(against)]
-use measured::Before;
+use measured::{accepted, Before};
 use measured::{Proved, Timed};
 use reference::{Scheduler, RECORD, ROUND_ROBIN};
 use std::time::Duration;
@@ -42,24 +44,24 @@ struct Row {
     proved: Timed<Proved>,
     second: Timed<Scheduler>,
     #[cfg(against)]
-    before: Option<Timed<Before>>,
+    before: Timed<Before>,
 }
 
 impl Row {
     fn new(point: Point) -> Row {
         let stream = Stream::new(point);
-        let lines = stream.lines();
         let rows = usize::from(point.partitions) * point.window as usize;
         let Stream { sheet, lead, .. } = &stream;
-        let second: Timed<Scheduler> = Timed::new(sheet, rows, lead, &lines);
+        let (proved, lines) = Timed::new(sheet, rows, lead);
+        let (second, others) = Timed::<Scheduler>::new(sheet, rows, lead);
+        assert!(lines == others);
         Row {
             point,
             ends: stream.ends(second.point.clone()),
-            proved: Timed::new(sheet, rows, lead, &lines),
+            proved,
             second,
-            // It knows first in, first out alone.
             #[cfg(against)]
-            before: (point.policy == 0).then(|| Timed::new(sheet, rows, lead, &lines)),
+            before: Timed::new(sheet, rows, lead).0,
             batch: stream.batch,
         }
     }
@@ -76,10 +78,10 @@ impl Row {
             self.proved.events(singles);
             self.second.events(singles);
             #[cfg(against)]
-            if let Some(before) = &mut self.before {
-                before.run(&self.batch, &mut other);
-                assert!(lines == other);
-                before.events(singles);
+            {
+                self.before.run(&self.batch, &mut other);
+                assert!(accepted(&other));
+                self.before.events(singles);
             }
         }
     }
@@ -90,7 +92,7 @@ impl Row {
         times.extend(self.proved.times());
         times.extend(self.second.times());
         #[cfg(against)]
-        times.extend(self.before.iter_mut().flat_map(Timed::times));
+        times.extend(self.before.times());
         times
     }
 
@@ -150,23 +152,19 @@ fn beside_the_reference(rows: &[Row]) {
 fn beside_the_commit_before<'a>(rows: impl Iterator<Item = &'a Row>) {
     println!();
     println!("Nanoseconds an event, now and at the commit before, and the speed now as a part of the speed before:");
-    head("| partitions | ready threads | W | run: now | before | ratio | event: now | before | ratio |");
+    head("| partitions | ready threads | W | policy | run: now | before | ratio | event: now | before | ratio |");
     let mut least = [(f64::MAX, String::new()), (f64::MAX, String::new())];
     for row in rows {
-        let Some(before) = &row.before else {
-            continue;
-        };
-        let ((run, event), (old_run, old_event)) = (row.proved(), before.each(RUN, EVENTS));
+        let ((run, event), (old_run, old_event)) = (row.proved(), row.before.each(RUN, EVENTS));
         let ratios = [old_run / run, old_event / event];
+        let name = format!("{} {} |", row.name(), row.point.policy);
         println!(
-            "{} {run:.1} | {old_run:.1} | {:.2} | {event:.0} | {old_event:.0} | {:.2} |",
-            row.name(),
-            ratios[0],
-            ratios[1]
+            "{name} {run:.1} | {old_run:.1} | {:.2} | {event:.0} | {old_event:.0} | {:.2} |",
+            ratios[0], ratios[1]
         );
         for (least, ratio) in least.iter_mut().zip(ratios) {
             if ratio < least.0 {
-                *least = (ratio, row.name());
+                *least = (ratio, name.clone());
             }
         }
     }

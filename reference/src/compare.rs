@@ -36,6 +36,9 @@ const ROOM: usize = 100_000;
 /// What stands in lent memory before a call.
 const OLD_BYTE: u8 = 0xA5;
 const OLD_NUMBER: u32 = u32::from_ne_bytes([OLD_BYTE; 4]);
+/// Kinds of events.
+const TICK: u8 = 1;
+const SET: u8 = 5;
 /// Numbers of history behind the rows.
 const BEHIND: usize = 5;
 /// Of how many states each byte takes all other values, and how long their
@@ -103,6 +106,9 @@ struct Counts {
     unfit: [u64; 3],
     flags: u64,
     thorough: u64,
+    /// Of states that are still sound: new priorities that moved a thread, to
+    /// the head and to the tail.
+    moved: [u64; 2],
 }
 
 struct Comparison {
@@ -392,6 +398,10 @@ impl Comparison {
         self.reach.refusals[usize::from(refusal)] += u64::from(refusal != 0);
         self.counts.refused += u64::from(refusal != 0);
         self.counts.sound += u64::from(refusal == 0);
+        if refusal == 0 && record[0] == SET && wanted.state.queue != given.state.queue {
+            let raised = wanted.state.priorities > given.state.priorities;
+            self.counts.moved[usize::from(raised)] += 1;
+        }
         if let Some(unfit) = sound::refused_for(given) {
             self.counts.unfit[unfit as usize] += 1;
         }
@@ -400,7 +410,8 @@ impl Comparison {
 
     /// Each byte of a state and of its history with other values: all of
     /// them for a few states, where flags and policies that are neither 0 nor 1
-    /// have to be refused with 8, and some for more states.
+    /// have to be refused with 8, and some for more states. Every other value
+    /// meets a tick, the rest a new priority.
     fn each_byte(&mut self, saved: &Saved, some: bool) -> Checked {
         let all = self.counts.thorough < THOROUGH
             && saved.history.len() <= SHORT
@@ -409,9 +420,6 @@ impl Comparison {
             return Ok(());
         }
         self.counts.thorough += u64::from(all);
-        let mut tick = [0; RECORD];
-        tick[0] = 1;
-        tick[4..8].copy_from_slice(&saved.state.stamp.to_le_bytes());
         for place in 0..proved::STATE + 4 * saved.history.len() {
             let values = if all { 255 } else { 3 };
             for value in 1..=values {
@@ -430,7 +438,11 @@ impl Comparison {
                     same("a flag or a policy that is neither 0 nor 1", &8, &refusal)?;
                     self.counts.flags += 1;
                 }
-                self.on_any_state(&changed, &tick)
+                let event = match (place + usize::from(value)) % 2 {
+                    0 => tick(&saved.state),
+                    _ => self.like_another(&saved.state),
+                };
+                self.on_any_state(&changed, &event)
                     .map_err(|Difference { what, event }| Difference {
                         what: format!("byte {place} changed by {by}: {what}"),
                         event,
@@ -439,6 +451,27 @@ impl Comparison {
         }
         Ok(())
     }
+
+    /// A thread of the line gets the priority of another there, at the time of
+    /// a state; a tick where the line is empty.
+    fn like_another(&mut self, state: &State) -> [u8; RECORD] {
+        let mut event = tick(state);
+        if let line @ [_, ..] = &state.queue[..state.queued as usize] {
+            let [thread, other] = [0; 2].map(|_| self.random.pick(line));
+            event[0] = SET;
+            event[1] = thread;
+            event[3] = state.priorities[usize::from(other)];
+        }
+        event
+    }
+}
+
+/// A tick at the time of a state.
+fn tick(state: &State) -> [u8; RECORD] {
+    let mut event = [0; RECORD];
+    event[0] = TICK;
+    event[4..8].copy_from_slice(&state.stamp.to_le_bytes());
+    event
 }
 
 /// Holds some lines to those of the reference.
@@ -543,11 +576,14 @@ fn compare(many: u64, first: u64) -> Result<(), ExitCode> {
     println!(
         "refused for a policy alone: {policy}, a slice alone: {slice}, one of them in an absent thread: {absent}"
     );
+    let [head, tail] = counts.moved;
+    println!("changed states where a new priority moved a thread: {head} to the head, {tail} to the tail");
     let complete = reach.complete()
         && reach
             .refusals
             .iter()
             .chain(&counts.unfit)
+            .chain(&counts.moved)
             .all(|&count| count > 0);
     if !complete {
         println!("compare: some refusal, mode or cause was not reached");

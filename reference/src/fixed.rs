@@ -38,6 +38,10 @@ pub fn ready(thread: u8, stamp: u32) -> Event {
     (3, thread, 0, 0, stamp, 0, 0)
 }
 
+fn set(thread: u8, priority: u8, stamp: u32) -> Event {
+    (5, thread, 0, priority, stamp, 0, 0)
+}
+
 pub fn bytes(events: &[Event]) -> Vec<u8> {
     let mut bytes = Vec::new();
     for &(kind, thread, partition, priority, stamp, mask, policy) in events {
@@ -184,6 +188,93 @@ pub fn cases() -> Vec<Fixed> {
                 tick(5000),
             ],
             "00 2 00 000\n00 2 00 000\n00 2 00 000\n00 2 00 000\n00 2 00 000\n",
+        ),
+        fixed(
+            "raised to others, behind them; to the same, where it was",
+            sheet(4, 1000, 0, 0, &[100]),
+            &[
+                create(0, 0, 9, 0, 1),
+                create(1, 0, 10, 0, 1),
+                ready(0, 0),
+                ready(1, 0),
+                set(0, 10, 0),
+                set(1, 10, 0),
+                set(0, 10, 0),
+                set(1, 11, 0),
+                set(0, 11, 0),
+            ],
+            "00 2 00 000\n00 2 00 001\n00 2 00 001\n00 2 00 001\n00 2 00 001\n\
+             00 2 00 001\n00 2 00 001\n",
+        ),
+        fixed(
+            "lowered to others, before them",
+            sheet(4, 1000, 0, 0, &[100]),
+            &[
+                create(0, 0, 10, 0, 1),
+                create(1, 0, 11, 0, 1),
+                ready(0, 0),
+                ready(1, 0),
+                set(1, 10, 0),
+                set(0, 11, 0),
+                set(0, 10, 0),
+                set(0, 9, 0),
+                set(1, 9, 0),
+            ],
+            "00 2 00 000\n00 2 00 001\n00 2 00 001\n00 2 00 000\n00 2 00 000\n\
+             00 2 00 001\n00 2 00 001\n",
+        ),
+        fixed(
+            "changed while not ready: the tail, by its ready",
+            sheet(4, 1000, 0, 0, &[100]),
+            &[
+                create(0, 0, 11, 0, 1),
+                create(1, 0, 10, 0, 1),
+                set(0, 10, 0),
+                ready(1, 0),
+                ready(0, 0),
+            ],
+            "00 0 00 255\n00 2 00 001\n00 2 00 001\n",
+        ),
+        fixed(
+            "up and down in the middle of a slice",
+            sheet(4, 1000, 0, 0, &[100]),
+            &[
+                with_policy(1, 0, 0, 10),
+                with_policy(1, 1, 0, 10),
+                ready(0, 0),
+                ready(1, 0),
+                tick(1000),
+                tick(2000),
+                set(0, 11, 2000),
+                set(0, 10, 2000),
+                tick(3000),
+                tick(4000),
+                tick(5000),
+            ],
+            "00 2 00 000\n00 2 00 000\n00 2 00 000\n00 2 00 000\n00 2 00 000\n\
+             00 2 00 001\n00 2 00 001\n",
+        ),
+        fixed(
+            "raised in the middle of a slice, behind who waits",
+            sheet(4, 1000, 0, 0, &[100]),
+            &[
+                with_policy(1, 0, 0, 10),
+                with_policy(1, 1, 0, 10),
+                ready(0, 0),
+                ready(1, 0),
+                tick(1000),
+                set(1, 11, 1000),
+                set(0, 11, 1000),
+                tick(2000),
+                tick(3000),
+                tick(4000),
+                tick(5000),
+                tick(6000),
+                tick(7000),
+                tick(8000),
+            ],
+            "00 2 00 000\n00 2 00 001\n00 2 00 001\n00 2 00 001\n00 2 00 001\n\
+             00 2 00 001\n00 2 00 000\n00 2 00 000\n00 2 00 000\n00 2 00 001\n",
         ),
     ]
 }

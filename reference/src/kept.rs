@@ -27,7 +27,7 @@ pub trait Kept {
     fn used(&self, partition: usize) -> Cycles;
     /// A thread that exists.
     fn thread(&self, number: usize) -> Option<Record>;
-    /// The ready threads in order of becoming ready.
+    /// The ready threads, the one furthest ahead first.
     fn line(&self) -> Vec<u8>;
     /// The running thread, or [`crate::NO_THREAD`].
     fn running(&self) -> u8;

@@ -21,7 +21,7 @@ pub struct Plain {
     pub since: u64,
     pub stamp: u32,
     pub threads: Vec<Option<Record>>,
-    /// Ready threads in order of becoming ready.
+    /// The ready threads, the one furthest ahead first.
     pub line: Vec<usize>,
     /// The running thread.
     pub running: Option<usize>,
@@ -148,7 +148,7 @@ impl Plain {
                 self.line.push(t);
             }
             4 => self.line.retain(|&other| other != t),
-            5 => self.threads[t].as_mut().unwrap().priority = record[3],
+            5 => self.set_priority(t, record[3]),
             6 => {
                 self.line.retain(|&other| other != t);
                 self.threads[t] = None;
@@ -156,6 +156,23 @@ impl Plain {
             _ => unreachable!(),
         }
         Ok(())
+    }
+
+    /// A new priority, and the place in the line that a ready thread gets by
+    /// it: the tail if it is raised, the head if it is lowered.
+    fn set_priority(&mut self, t: usize, priority: u8) {
+        let thread = self.threads[t].as_mut().unwrap();
+        let old = thread.priority;
+        thread.priority = priority;
+        if !self.line.contains(&t) || priority == old {
+            return;
+        }
+        self.line.retain(|&other| other != t);
+        if priority > old {
+            self.line.push(t);
+        } else {
+            self.line.insert(0, t);
+        }
     }
 
     /// The window moves, and the thread that ran is counted down.

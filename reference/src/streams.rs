@@ -7,6 +7,7 @@
 //! a decision tips over.
 
 mod maker;
+mod moves;
 mod random;
 mod report;
 mod sheets;

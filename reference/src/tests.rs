@@ -1,5 +1,5 @@
-//! The worked run, both sides of each line, the slips, time slices, and the
-//! comparison with the plain model.
+//! The worked run, both sides of each line, the slips, time slices, priorities
+//! that change, and the comparison with the plain model.
 
 use crate::accounts::Accounts;
 use crate::plain::Plain;
@@ -582,11 +582,6 @@ fn order_in_the_line() {
     let mut s = start(4, 1000, 0, 0, &[100]);
     join(&mut s, 5, 0, 10);
     assert_eq!(join(&mut s, 3, 0, 10), (2, 0, 5));
-    // Places are kept when priorities change.
-    assert_eq!(took(&mut s, set(3, 11, 0)), (2, 0, 3));
-    assert_eq!(took(&mut s, set(3, 10, 0)), (2, 0, 5));
-    assert_eq!(took(&mut s, set(5, 9, 0)), (2, 0, 3));
-    assert_eq!(took(&mut s, set(5, 10, 0)), (2, 0, 5));
     // Who blocks and comes back stands at the tail.
     assert_eq!(took(&mut s, block(5, 0)), (2, 0, 3));
     assert_eq!(took(&mut s, ready(5, 0)), (2, 0, 3));
@@ -907,6 +902,184 @@ fn a_slice_that_ends_looks_for_the_next() {
     let now = s.stamp();
     took(&mut s, set(2, 11, now));
     assert!((0..8).all(|_| next(&mut s) == 2));
+}
+
+// Priorities that change ----------------------------------------------------
+//
+// The words quoted are request (ii)'s of document 02.
+
+/// Threads 0, 1 and so on with these priorities, ready in this order.
+fn in_line(priorities: &[u8]) -> Scheduler {
+    let mut s = alone();
+    for (t, &priority) in priorities.iter().enumerate() {
+        join(&mut s, t as u8, 0, priority);
+    }
+    s
+}
+
+/// A new priority, now: the line after it and who runs.
+fn changed(s: &mut Scheduler, t: u8, priority: u8) -> (Vec<u8>, u8) {
+    let stamp = s.stamp();
+    let runs = took(s, set(t, priority, stamp)).2;
+    (s.line(), runs)
+}
+
+#[test]
+fn a_raised_thread_goes_to_the_tail() {
+    // "a ready thread that is raised goes to the tail of the line"
+    let mut s = in_line(&[10, 10, 10, 12]);
+    assert_eq!((s.line(), s.running()), (vec![0, 1, 2, 3], 3));
+    // To the priority of another, behind it; above it; below it.
+    assert_eq!(changed(&mut s, 0, 12), (vec![1, 2, 3, 0], 3));
+    assert_eq!(changed(&mut s, 1, 13), (vec![2, 3, 0, 1], 1));
+    assert_eq!(changed(&mut s, 2, 11), (vec![3, 0, 1, 2], 1));
+    // By as much as can be, and who stands at the tail already.
+    assert_eq!(changed(&mut s, 2, 255), (vec![3, 0, 1, 2], 2));
+    assert_eq!(changed(&mut s, 3, 255), (vec![0, 1, 2, 3], 2));
+}
+
+#[test]
+fn a_lowered_thread_goes_to_the_head() {
+    // "one that is lowered goes to its head"
+    let mut s = in_line(&[10, 10, 11, 10]);
+    assert_eq!((s.line(), s.running()), (vec![0, 1, 2, 3], 2));
+    // To the priority of others, before them; below them.
+    assert_eq!(changed(&mut s, 2, 10), (vec![2, 0, 1, 3], 2));
+    assert_eq!(changed(&mut s, 1, 9), (vec![1, 2, 0, 3], 2));
+    assert_eq!(changed(&mut s, 0, 9), (vec![0, 1, 2, 3], 2));
+    // By as much as can be, and who stands at the head already.
+    assert_eq!(changed(&mut s, 0, 0), (vec![0, 1, 2, 3], 2));
+    assert_eq!(changed(&mut s, 3, 9), (vec![3, 0, 1, 2], 2));
+    // Of the two with 9, the one that was lowered last stands before.
+    assert_eq!(changed(&mut s, 2, 1), (vec![2, 3, 0, 1], 3));
+}
+
+#[test]
+fn the_priority_it_has_moves_nobody() {
+    // "one set to the priority it has stays"
+    let mut s = in_line(&[10, 10, 10]);
+    for t in [0, 1, 2, 1, 0] {
+        assert_eq!(changed(&mut s, t, 10), (vec![0, 1, 2], 0));
+    }
+    // Down and up again is two moves, not none.
+    changed(&mut s, 1, 9);
+    assert_eq!(changed(&mut s, 1, 10), (vec![0, 2, 1], 0));
+    changed(&mut s, 2, 11);
+    assert_eq!(changed(&mut s, 2, 10), (vec![2, 0, 1], 2));
+}
+
+#[test]
+fn not_ready_and_only_the_number_changes() {
+    // "A thread that isn't ready only changes its number."
+    let mut s = in_line(&[10, 10, 10]);
+    took(&mut s, create(7, 0, 5, 1, 0));
+    for priority in [20, 20, 0, 10] {
+        assert_eq!(changed(&mut s, 7, priority), (vec![0, 1, 2], 0));
+        assert_eq!(s.thread(7).unwrap().priority, priority);
+    }
+    // It joins at the tail, as ever, and what it had before is nothing.
+    took(&mut s, ready(7, 0));
+    assert_eq!((s.line(), s.running()), (vec![0, 1, 2, 7], 0));
+    // One that was in the line, in front, and was raised and lowered out of it.
+    took(&mut s, block(0, 0));
+    assert_eq!(changed(&mut s, 0, 30), (vec![1, 2, 7], 1));
+    assert_eq!(changed(&mut s, 0, 10), (vec![1, 2, 7], 1));
+    took(&mut s, ready(0, 0));
+    assert_eq!((s.line(), s.running()), (vec![1, 2, 7, 0], 1));
+}
+
+#[test]
+fn the_running_thread_moves_too() {
+    // It is a ready thread: "The line holds every ready thread, the running
+    // one included" (document 01).
+    let mut s = in_line(&[10, 10]);
+    assert_eq!(changed(&mut s, 0, 11), (vec![1, 0], 0));
+    assert_eq!(changed(&mut s, 0, 10), (vec![0, 1], 0));
+    assert_eq!(changed(&mut s, 0, 9), (vec![0, 1], 1));
+    assert_eq!(changed(&mut s, 1, 20), (vec![0, 1], 1));
+    assert_eq!(changed(&mut s, 1, 9), (vec![1, 0], 1));
+    // Raised behind the other, it runs on above it, and stands behind it when
+    // the other comes up.
+    assert_eq!(changed(&mut s, 1, 15), (vec![0, 1], 1));
+    assert_eq!(changed(&mut s, 0, 15), (vec![1, 0], 1));
+}
+
+#[test]
+fn the_ends_are_those_of_the_whole_line() {
+    // "the tail of the line", "its head": not of the partition's part of it,
+    // nor of those that this core may run, nor of those of the priority.
+    let mut s = start(4, 1000, 0, 0, &[50, 50]);
+    join(&mut s, 0, 0, 10);
+    join(&mut s, 1, 1, 10);
+    took(&mut s, create(2, 1, 10, 2, 0));
+    took(&mut s, ready(2, 0));
+    join(&mut s, 3, 0, 10);
+    assert_eq!((s.line(), s.running()), (vec![0, 1, 2, 3], 0));
+    assert_eq!(changed(&mut s, 0, 11), (vec![1, 2, 3, 0], 0));
+    assert_eq!(changed(&mut s, 3, 1), (vec![3, 1, 2, 0], 0));
+    // One that another core runs moves like all others, and runs no more here.
+    assert_eq!(changed(&mut s, 2, 200), (vec![3, 1, 0, 2], 0));
+    assert_eq!(changed(&mut s, 2, 0), (vec![2, 3, 1, 0], 0));
+    assert_eq!(changed(&mut s, 1, 12), (vec![2, 3, 0, 1], 1));
+    // Threads that come later stand behind those who were raised.
+    join(&mut s, 4, 0, 1);
+    assert_eq!(s.line(), [2, 3, 0, 1, 4]);
+}
+
+#[test]
+fn a_changed_priority_leaves_the_slice() {
+    let mut s = alone();
+    join_in_turns(&mut s, 0, 0, 10);
+    join_in_turns(&mut s, 1, 0, 10);
+    assert_eq!((next(&mut s), next(&mut s)), (0, 0));
+    // Up and down in the middle of its slice: two ticks are left of it.
+    assert_eq!(changed(&mut s, 0, 11), (vec![1, 0], 0));
+    assert_eq!(changed(&mut s, 0, 10), (vec![0, 1], 0));
+    assert_eq!(changed(&mut s, 0, 10), (vec![0, 1], 0));
+    assert_eq!(turn(&s, 0), (1, 2));
+    assert_eq!((next(&mut s), next(&mut s)), (0, 1));
+    assert_eq!((s.line(), turn(&s, 0).1), (vec![1, 0], 4));
+    // Raised to the one that came up before it, it waits with what it has.
+    assert_eq!((next(&mut s), turn(&s, 1).1), (1, 3));
+    assert_eq!(changed(&mut s, 0, 11), (vec![1, 0], 0));
+    assert_eq!((next(&mut s), turn(&s, 0).1), (0, 3));
+    assert_eq!(changed(&mut s, 1, 11), (vec![0, 1], 0));
+    assert_eq!(changed(&mut s, 0, 12), (vec![1, 0], 0));
+    assert_eq!(changed(&mut s, 0, 11), (vec![0, 1], 0));
+    let runs: Vec<u8> = (0..6).map(|_| next(&mut s)).collect();
+    assert_eq!(runs, [0, 0, 1, 1, 1, 0]);
+    assert_eq!((turn(&s, 0).1, turn(&s, 1).1), (4, 4));
+}
+
+#[test]
+fn a_slice_ends_among_moved_threads() {
+    // 0 and 1 take turns; 2, lowered to them, goes before both, and 3, raised
+    // to them, behind both.
+    let mut s = alone();
+    join_in_turns(&mut s, 0, 0, 10);
+    join_in_turns(&mut s, 1, 0, 10);
+    join_in_turns(&mut s, 2, 0, 20);
+    join_in_turns(&mut s, 3, 0, 5);
+    assert_eq!(changed(&mut s, 3, 10), (vec![0, 1, 2, 3], 2));
+    assert_eq!(changed(&mut s, 2, 10), (vec![2, 0, 1, 3], 2));
+    let runs: Vec<u8> = (0..17).map(|_| next(&mut s)).collect();
+    let turns = [2, 2, 2, 0, 0, 0, 0, 1, 1, 1, 1, 3, 3, 3, 3, 2, 2];
+    assert_eq!(runs, turns);
+    assert_eq!(s.line(), [2, 0, 1, 3]);
+}
+
+#[test]
+fn a_refused_new_priority_moves_nobody() {
+    let mut s = in_line(&[10, 10]);
+    assert_eq!(refused(&mut s, &set(0, 20, 2001)), 10);
+    assert_eq!(refused(&mut s, &set(2, 20, 0)), 11);
+    let mut stray = set(0, 20, 0);
+    stray[9] = 1;
+    assert_eq!(refused(&mut s, &stray), 9);
+    // A resume keeps the line as the moves have left it.
+    assert_eq!(changed(&mut s, 0, 11), (vec![1, 0], 0));
+    took(&mut s, resume(5));
+    assert_eq!((s.line(), s.running()), (vec![1, 0], 0));
 }
 
 // Streams -------------------------------------------------------------------

@@ -1,10 +1,11 @@
 //! The threads, and who comes first in each partition.
 //!
-//! The line is not stored as a list. A thread that becomes ready draws a
-//! number from a counter that only goes up; of two ready threads, the one
-//! with the smaller number stands further ahead. Each partition keeps the
-//! set of its threads that stand in the line and may run on this core, and
-//! the first of them with the top priority.
+//! The line is not stored as a list. A thread that goes to its tail draws a
+//! number from a counter that only goes up, one that goes to its head from a
+//! counter that only goes down; of two ready threads, the one with the smaller
+//! number stands further ahead. Each partition keeps the set of its threads
+//! that stand in the line and may run on this core, and the first of them with
+//! the top priority.
 //!
 //! Nor is a slice stored as what is left of it: a round-robin thread has the
 //! number of ticks that have found it running since its slice was full.
@@ -17,7 +18,7 @@ use crate::{refusal, PARTITIONS, ROUND_ROBIN, SLICE, THREADS};
 #[derive(Clone, Copy, Default)]
 struct Thread {
     /// Place in the line; means something while the thread is ready.
-    place: u64,
+    place: i64,
     partition: u8,
     priority: u8,
     mask: u8,
@@ -52,7 +53,9 @@ pub struct Threads {
     /// Bit p: some thread of p is runnable.
     competing: u16,
     groups: [Group; PARTITIONS],
-    next_place: u64,
+    /// What the next at the head draws, and the next at the tail.
+    head: i64,
+    tail: i64,
     table: [Thread; THREADS],
 }
 
@@ -67,7 +70,8 @@ impl Threads {
             in_turns: 0,
             competing: 0,
             groups: [Group::default(); PARTITIONS],
-            next_place: 0,
+            head: -1,
+            tail: 0,
             table: [Thread::default(); THREADS],
         }
     }
@@ -181,28 +185,32 @@ impl Threads {
         Ok(())
     }
 
-    /// Takes a new priority and keeps the place in the line.
+    /// Takes a new priority. A ready thread that is raised goes to the line's
+    /// tail, one that is lowered to its head; one that has this priority stays.
+    /// For a thread that isn't ready the number is all that changes.
     pub fn set_priority(&mut self, thread: u8, priority: u8) -> Result<(), u8> {
         let t = self.find(thread)?;
         let old = self.table[t].priority;
         self.table[t].priority = priority;
-        if self.ready & self.allowed & bit(t) == 0 {
+        if self.ready & bit(t) == 0 || priority == old {
             return Ok(());
         }
         let p = usize::from(self.table[t].partition);
-        let group = &mut self.groups[p];
-        if usize::from(group.first) == t {
-            if priority < old {
-                self.search(p);
-            } else {
+        let runs_here = self.allowed & bit(t) != 0;
+        let is_first = runs_here && usize::from(self.groups[p].first) == t;
+        if priority > old {
+            self.go_to_tail(t);
+            // Others that have the new priority already stand before it.
+            let group = &mut self.groups[p];
+            if runs_here && (is_first || priority > group.top) {
                 group.top = priority;
+                group.first = t as u8;
             }
-        } else if priority > group.top
-            || priority == group.top
-                && self.table[t].place < self.table[usize::from(group.first)].place
-        {
-            group.top = priority;
-            group.first = t as u8;
+        } else {
+            self.go_to_head(t);
+            if is_first {
+                self.search(p);
+            }
         }
         Ok(())
     }
@@ -238,10 +246,16 @@ impl Threads {
         }
     }
 
-    /// Draws the next place in the line.
+    /// Draws a place behind all others.
     fn go_to_tail(&mut self, t: usize) {
-        self.table[t].place = self.next_place;
-        self.next_place += 1;
+        self.table[t].place = self.tail;
+        self.tail += 1;
+    }
+
+    /// Draws a place before all others.
+    fn go_to_head(&mut self, t: usize) {
+        self.table[t].place = self.head;
+        self.head -= 1;
     }
 
     fn find(&self, thread: u8) -> Result<usize, u8> {

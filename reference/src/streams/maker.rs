@@ -164,12 +164,13 @@ impl Maker {
                 Pace::Still,
             ]);
             match self.random.below(100) {
-                0..=28 => self.mixed(),
-                29..=54 => self.busy(),
-                55..=63 => self.wave(),
-                64..=72 => self.reorder(),
-                73..=84 => self.rivals(),
-                85..=89 => self.only_poor(),
+                0..=26 => self.mixed(),
+                27..=51 => self.busy(),
+                52..=59 => self.wave(),
+                60..=66 => self.reorder(),
+                67..=77 => self.rivals(),
+                78..=85 => self.places(),
+                86..=89 => self.only_poor(),
                 90..=94 => self.settle(),
                 95..=97 => self.resume(),
                 _ => self.clear_out(),
@@ -289,14 +290,44 @@ impl Maker {
     /// Threads of one partition at one priority take turns: ticks, some of
     /// them of no time, and now and then something in the middle of a slice.
     fn rivals(&mut self) {
-        let existing = self.shadow.existing();
-        let partition = match self.random.bit(existing) {
+        let priority = self.random.pick(&self.levels);
+        self.gather(&[priority]);
+        let between = self.random.pick(&[0, 10, 30]);
+        for _ in 0..self.random.range(4, 30) {
+            if self.random.percent(between) {
+                self.disturb(priority);
+            }
+            self.tick();
+        }
+    }
+
+    /// Threads of one partition go up and down between two priorities, and
+    /// slices end among them: where each stands in the line tells who runs.
+    fn places(&mut self) {
+        let levels = [0; 2].map(|_| self.random.pick(&self.levels));
+        let partition = self.gather(&levels);
+        for _ in 0..self.random.range(5, 40) {
+            match self.random.below(10) {
+                0..=4 => self.shift(partition),
+                5 => {
+                    let kind = self.random.pick(&[READY, BLOCK]);
+                    self.put_kind(kind);
+                }
+                _ => self.tick(),
+            }
+        }
+    }
+
+    /// Some threads more for one partition, and most of its threads in the line
+    /// with one of these priorities. Which partition it is comes back.
+    fn gather(&mut self, levels: &[u8]) -> u8 {
+        let partition = match self.random.bit(self.shadow.existing()) {
             Some(t) => self.shadow.partition_of(t),
             None => self.home(),
         };
-        let priority = self.random.pick(&self.levels);
         for _ in 0..self.random.range(1, 3) {
             if let Some(fields) = self.valid(CREATE) {
+                let priority = self.random.pick(levels);
                 self.put(Fields {
                     partition,
                     priority,
@@ -304,22 +335,68 @@ impl Maker {
                 });
             }
         }
-        for t in bits(self.shadow.existing()) {
-            if self.shadow.partition_of(t) == partition && self.random.percent(80) {
+        for t in bits(self.of_partition(partition)) {
+            if self.random.percent(80) {
+                let priority = self.random.pick(levels);
                 self.level(t, priority);
             }
         }
-        let between = self.random.pick(&[0, 10, 30]);
-        for _ in 0..self.random.range(4, 30) {
-            if self.random.percent(between) {
-                self.disturb(priority);
-            }
-            if self.random.percent(20) {
-                self.put_for(TICK, 0);
-            } else {
-                self.put_kind(TICK);
-            }
+        partition
+    }
+
+    /// The threads of a partition.
+    fn of_partition(&self, partition: u8) -> u64 {
+        bits(self.shadow.existing())
+            .filter(|&t| self.shadow.partition_of(t) == partition)
+            .fold(0, |set, t| set | 1 << t)
+    }
+
+    /// A tick, now and then one that is seldom whole.
+    fn tick(&mut self) {
+        if self.random.percent(20) {
+            self.put_for(TICK, 0);
+        } else {
+            self.put_kind(TICK);
         }
+    }
+
+    /// A new priority for the running thread, for one of this partition, ready
+    /// or not, or for any: mostly that of a ready one beside it in its own
+    /// partition, else the one it has, or next to that.
+    fn shift(&mut self, partition: u8) {
+        let own = self.of_partition(partition);
+        let ready = self.shadow.ready();
+        let thread = match (self.random.below(10), self.shadow.running()) {
+            (0..=2, running) if usize::from(running) < THREADS => Some(running),
+            (0..=7, _) => self.random.bit(own & ready),
+            (8, _) => self.random.bit(own & !ready),
+            _ => self.random.bit(self.shadow.existing()),
+        };
+        let Some(thread) = thread else {
+            return self.put_kind(READY);
+        };
+        let beside = self.of_partition(self.shadow.partition_of(thread)) & ready;
+        let other = self.random.bit(beside & !(1 << thread)).unwrap_or(thread);
+        let [old, like] = [thread, other].map(|t| self.priority_of(t));
+        let priority = match self.random.below(8) {
+            0..=4 => like,
+            5 => old,
+            6 => old.saturating_add(1),
+            _ => old.saturating_sub(1),
+        };
+        let stamp = self.stamp(false);
+        self.put(Fields {
+            kind: SET,
+            thread,
+            priority,
+            stamp,
+            ..Fields::default()
+        });
+    }
+
+    fn priority_of(&self, thread: u8) -> u8 {
+        let record = self.shadow.thread(thread.into());
+        record.map_or(0, |record| record.priority)
     }
 
     /// Gives a thread this priority and makes it ready.

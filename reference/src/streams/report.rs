@@ -1,6 +1,7 @@
 //! Showing a case and counting what was reached.
 
 use super::maker::{BLOCK, CREATE, END, READY, RESUME, SET, TICK};
+use super::moves::Moves;
 use super::slices::Slices;
 use super::Case;
 use crate::scheduler::Scheduler;
@@ -53,7 +54,8 @@ pub fn write_event(f: &mut impl fmt::Write, record: &[u8]) -> fmt::Result {
     }
 }
 
-/// How often each refusal, each mode and each thing about slices was reached.
+/// How often each refusal, each mode and each thing about slices and places was
+/// reached.
 #[derive(Clone, Debug, Default, PartialEq, Eq)]
 pub struct Reach {
     pub cases: u64,
@@ -65,12 +67,14 @@ pub struct Reach {
     /// Accepted events by kind.
     pub kinds: [u64; 8],
     slices: Slices,
+    moves: Moves,
 }
 
 impl Reach {
     /// Counts a case and the lines that some scheduler printed for it.
     pub fn count(&mut self, case: &Case, lines: &[u8]) {
         self.cases += 1;
+        self.moves.new_case();
         let mut met = Scheduler::start(&case.sheet).ok();
         for (place, line) in lines.chunks_exact(RECORD).enumerate() {
             self.lines += 1;
@@ -88,13 +92,18 @@ impl Reach {
                 let event = &case.events[place * RECORD..];
                 let event = &event[..event.len().min(RECORD)];
                 self.slices.count(met, event, refusal);
-                met.event(event);
+                let mut left = met.clone();
+                left.event(event);
+                if refusal == 0 {
+                    self.moves.count(met, event, &left);
+                }
+                *met = left;
             }
         }
     }
 
     /// Was every refusal a stream can give, every mode and everything about
-    /// slices reached?
+    /// slices and places reached?
     pub fn complete(&self) -> bool {
         let refusals = (0..15).filter(|number| !(7..=8).contains(number));
         refusals
@@ -102,6 +111,7 @@ impl Reach {
             .all(|count| count > 0)
             && self.modes.iter().all(|&count| count > 0)
             && self.slices.complete()
+            && self.moves.complete()
     }
 }
 
@@ -118,6 +128,6 @@ impl fmt::Display for Reach {
         for (kind, count) in self.kinds.iter().enumerate().skip(1) {
             writeln!(f, "accepted kind {kind}: {count}")?;
         }
-        write!(f, "{}", self.slices)
+        write!(f, "{}{}", self.slices, self.moves)
     }
 }
