@@ -59,13 +59,15 @@ def told(program, sheet, events, waits):
 
 
 def busy(count):
-    """A long stream of ticks, wakes and sleeps, some of them refused, of threads of which some take turns."""
+    """A long stream of ticks, wakes, sleeps and new priorities, some of them refused, of threads of which some take turns."""
     draw = random.Random(count)
     events = [record(2, 0, t, t % 2, draw.randrange(2), 1, int(t < 6)) for t in range(8)]
     stamp = 0
     while len(events) < count:
         stamp += draw.choice((0, 200, 500, 1000, 3000))
-        events.append(draw.choice((record(1, stamp), record(3, stamp, draw.randrange(9)), record(4, stamp, draw.randrange(9)))))
+        thread = draw.randrange(9)
+        set_priority = record(5, stamp, thread, priority=draw.randrange(2))
+        events.append(draw.choice((record(1, stamp), record(3, stamp, thread), record(4, stamp, thread), set_priority)))
     return b"".join(events)
 
 
