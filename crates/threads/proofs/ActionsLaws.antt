@@ -12,10 +12,10 @@ use types.Run.{OneOf}
 use Rattle.model.specs.State.{absent, thread, State, Thread}
 use Rattle.model.specs.Event.{kindOf, threadOf, partitionOf, priorityOf, maskOf, policyOf, known}
 use Rattle.model.specs.Slices.{sliceFor}
-use Rattle.model.specs.Step.{withThread, withReady, returned, withPriority, created, joins, goes, leaves, act}
+use Rattle.model.specs.Step.{withThread, withReady, returned, withPriority, created, joins, goes, leaves, requeued, reprioritized, act}
 use Rattle.lists.proofs.Tests.{both}
 use Rattle.model.specs.Arrays.{flag, plain, Columns, withReadyColumn, withPriorityColumn, withSliceColumn, threadsIn, Sized, Regular, Tables, withTables}
-use Rattle.model.proofs.Table.{plain-put, putRecord, flag-low, returned-put}
+use Rattle.model.proofs.Table.{thread-at, plain-put, putRecord, flag-low, returned-put}
 use Rattle.threads.specs.Entries.{queueIn, queueFrom}
 use Rattle.threads.specs.Able.{Acted}
 use Rattle.event.proofs.kinds.Action
@@ -37,7 +37,7 @@ module _ (s : State) (b : List ℕ) where
   unfolding act
   act-block e = rw e
 
-  pub act-priority : kindOf b ≡ 5 → act s b ≡ withThread s (threadOf b) (withPriority (thread s (threadOf b)) (priorityOf b))
+  pub act-priority : kindOf b ≡ 5 → act s b ≡ reprioritized s (threadOf b) (priorityOf b)
   unfolding act
   act-priority e = rw e
 
@@ -67,9 +67,10 @@ module _ (old : Tables) (b : List ℕ) (ts : List Thread) where
       → Acted old (record { threads = ts; queue = old .queue; queued = old .queued }) b
   acted-create k e s = (λ i. withTables s (record { threads = e i; queue = old .queue; queued = old .queued })) ∙ sym (act-create (withTables s old) b k)
 
-  pub acted-priority : kindOf b ≡ 5 → ts ≡ set (old .threads) (threadOf b) (withPriority record-of (priorityOf b))
-      → Acted old (record { threads = ts; queue = old .queue; queued = old .queued }) b
-  acted-priority k e s = (λ i. withTables s (record { threads = e i; queue = old .queue; queued = old .queued })) ∙ sym (act-priority (withTables s old) b k)
+  pub acted-priority : (q : List ℕ) (n : ℕ) → kindOf b ≡ 5 → ts ≡ set (old .threads) (threadOf b) (withPriority record-of (priorityOf b))
+      → queueIn q n ≡ queueFrom (requeued (record-of .ready) (record-of .priority) (priorityOf b) (threadOf b) (take (old .queued) (old .queue)))
+      → Acted old (record { threads = ts; queue = q; queued = n }) b
+  acted-priority q n k e f s = settled ts _ q n _ e f s ∙ sym (act-priority (withTables s old) b k)
 
   pub acted-ready : (q : List ℕ) (n : ℕ) → kindOf b ≡ 3 → ts ≡ set (old .threads) (threadOf b) (returned record-of)
       → queueIn q n ≡ queueFrom (take (old .queued) (old .queue) ++ (threadOf b ∷ [])) → Acted old (record { threads = ts; queue = q; queued = n }) b
@@ -82,6 +83,12 @@ module _ (old : Tables) (b : List ℕ) (ts : List Thread) where
   pub acted-end : (q : List ℕ) (n : ℕ) → kindOf b ≡ 6 → ts ≡ set (old .threads) (threadOf b) absent
       → queueIn q n ≡ queueFrom (leaves (take (old .queued) (old .queue)) (threadOf b)) → Acted old (record { threads = ts; queue = q; queued = n }) b
   acted-end q n k e f s = settled ts _ q n _ e f s ∙ sym (act-end (withTables s old) b k)
+
+-- the record's readiness and priority are the numbers in the arrays
+pub place-of : (ts : Columns) (t v : ℕ) (q : List ℕ) → t < 64
+    → requeued (eqb (getD (ts .ready) t 0) 1) (getD (ts .priorities) t 0) v t q
+    ≡ requeued (getD (threadsIn ts) t absent .ready) (getD (threadsIn ts) t absent .priority) v t q
+place-of ts t v q h = ap (λ (x : Thread). requeued (x .ready) (x .priority) v t q) (sym (thread-at ts t h))
 
 -- ---- the columns keep their lengths, and flags stay flags
 

@@ -9,13 +9,13 @@ use native.Mathlib.Decide.{decLe}
 use native.Mathlib.Nat.{not-suc-le-zero}
 use lib.Dec.{eqb}
 use borrow.Author.Tests.{eq-eqb, ne-eqb, eqb-false, not-true}
-use lib.ListN.{length, getD, take, drop, set, replicate, length-append, length-take, length-drop, length-replicate, take-append-drop}
+use lib.ListN.{length, getD, take, drop, set, replicate, length-append, length-take, length-drop, length-replicate, take-append-drop, List·getD-append}
 use lib.Seq.{length-take-le, take-suc, take-all, drop-cons, append-snoc, set-at, take-at, drop-at, take-append-seam, getD-append-add, getD-drop, take-append-le, drop-append-le, take-take, getD-take}
 use Rattle.lists.specs.Lists.{any, member, keep, distinct}
 use Rattle.lists.proofs.Tests.{both, neither, clash}
 use Rattle.lists.proofs.All.{without-none}
 use Rattle.lists.proofs.Tables.{zeros-after}
-use Rattle.model.specs.Step.{leaves, toTail}
+use Rattle.model.specs.Step.{leaves, toTail, toHead}
 use Rattle.model.specs.Facts.{Stored}
 use Rattle.threads.specs.Entries.{Queue, queueIn, queueFrom, QueueStored, FirstAt, without, removed}
 
@@ -120,6 +120,53 @@ module _ (l : List ℕ) (at : ℕ) where
       ap (λ x. set (take i (without l at) ++ x) i 0) d ∙ set-at (take i (without l at)) (getD l i 0) (drop (i + 1) l) 0 i a
       ∙ ap (λ (x : ℕ). take i (without l at) ++ (0 ∷ drop x l)) m ∙ ap (λ (x : ℕ). take x (without l at) ++ (0 ∷ drop n l)) e
 
+-- ---- entries that move on
+
+-- up to place i the entries stand where they stood; those from there to place `at`, without it, have moved one place on
+module _ (l : List ℕ) (at : ℕ) where
+  pub moved : ℕ → List ℕ
+  moved i = take (suc i) l ++ drop i (without l at)
+
+module _ (l : List ℕ) (at : ℕ) (h : at < length l) where
+  pub move-none : l ≡ moved l at at
+  unfolding moved
+  move-none =
+      let p : length (take at l) ≡ at = length-take-le at l (omega arith) in
+      rw (drop-at (take at l) (drop (at + 1) l) at p, add-one) (sym (take-append-drop (suc at) l))
+
+  -- before the place that is left out, the list is as it was
+  same : (i : ℕ) → i < at → getD (without l at) i 0 ≡ getD l i 0
+  same i k =
+      let p : length (take at l) ≡ at = length-take-le at l (omega arith) in
+      List·getD-append (take at l) (drop (at + 1) l) 0 i (omega (arith, p)) ∙ getD-take at l i 0 k
+
+  move-more : (i : ℕ) → i < at → set (moved l at (suc i)) (suc i) (getD (moved l at (suc i)) i 0) ≡ moved l at i
+  unfolding moved
+  move-more i k =
+      let w = without l at in
+      let x = getD l i 0 in
+      let y = getD l (suc i) 0 in
+      let a : length (take (suc i) l) ≡ suc i = length-take-le (suc i) l (omega arith) in
+      let b : length (take (suc (suc i)) l) ≡ suc (suc i) = length-take-le (suc (suc i)) l (omega arith) in
+      let v : getD (take (suc (suc i)) l ++ drop (suc i) w) i 0 ≡ x =
+      List·getD-append (take (suc (suc i)) l) (drop (suc i) w) 0 i (omega (arith, b)) ∙ getD-take (suc (suc i)) l i 0 (omega arith) in
+      let t : take (suc (suc i)) l ++ drop (suc i) w ≡ take (suc i) l ++ (y ∷ drop (suc i) w) =
+      ap (λ r. r ++ drop (suc i) w) (take-suc l (suc i) 0 (omega arith)) ∙ append-snoc (take (suc i) l) y (drop (suc i) w) in
+      let d : x ∷ drop (suc i) w ≡ drop i w = sym (drop-cons w i 0 (omega (arith, long l at h)) ∙ ap (λ r. r ∷ drop (suc i) w) (same i k)) in
+      ap (set (take (suc (suc i)) l ++ drop (suc i) w) (suc i)) v ∙ ap (λ r. set r (suc i) x) t
+      ∙ set-at (take (suc i) l) y (drop (suc i) w) x (suc i) a ∙ ap (λ r. take (suc i) l ++ r) d
+
+  -- one more, from place j to place i
+  pub move-back : (i j : ℕ) → 0 < i → i ≤ at → j ≡ i - 1 → set (moved l at i) i (getD (moved l at i) j 0) ≡ moved l at j
+  move-back i j p q e =
+      let up : i ≡ suc j = omega arith in
+      rw up (move-more j (omega arith))
+
+  -- and another one at the head
+  pub move-end : (t : ℕ) → set (moved l at 0) 0 t ≡ t ∷ without l at
+  unfolding moved
+  move-end t = ap (λ r. set (r ++ without l at) 0 t) (take-suc l 0 0 (omega arith))
+
 -- ---- leaving
 
 -- a list without repeats, without what stands at a place
@@ -145,23 +192,34 @@ module _ (es : List ℕ) (n t i : ℕ) (s : QueueStored es n) (f : FirstAt (take
   stays h =
       s ∙ ap queueFrom (sym (without-none (take n es) t (out h)))
 
+  -- what is left of the threads, and of what is stored, where the one that was found is left out
+  left : i < n → distinct (take n es) ≡ true → leaves (take n es) t ≡ without (take n es) i
+  left h once =
+      let inside : i < length (take n es) = omega (arith, counted es n s) in
+      leaves-at (take n es) t i once (f .none-before) inside (f .here inside) ∙ rw (← add-one i)
+
+  fewer : i < n → length (without (take n es) i) + 1 ≡ n
+  fewer h = let inside : i < length (take n es) = omega (arith, counted es n s) in long (take n es) i inside ∙ counted es n s
+
+  apart : i < n → without es i ≡ without (take n es) i ++ zeros (64 - n)
+  apart h =
+      let l = take n es in
+      let zs = zeros (64 - n) in
+      let inside : i < length l = omega (arith, counted es n s) in
+      ap (λ x. without x i) (whole es n s)
+      ∙ rw (take-append-le i l zs (omega arith), drop-append-le (i + 1) l zs (omega arith)) (sym (append-assoc (take i l) (drop (i + 1) l) zs))
+
   pub gone : i < n → n ≤ 64 → distinct (take n es) ≡ true → queueIn (removed es n i) (n - 1) ≡ queueFrom (leaves (take n es) t)
   unfolding queueFrom removed
   gone h few once =
       let l = take n es in
-      let c = counted es n s in
       let zs = zeros (64 - n) in
-      let inside : i < length l = omega (arith, c) in
-      let left : leaves l t ≡ without l i = leaves-at l t i once (f .none-before) inside (f .here inside) ∙ rw (← add-one i) in
-      let w : length (without l i) ≡ n - 1 = omega (arith, long l i inside, c) in
-      let whole-es = whole es n s in
-      let apart : without (l ++ zs) i ≡ without l i ++ zs =
-      rw (take-append-le i l zs (omega arith), drop-append-le (i + 1) l zs (omega arith)) (sym (append-assoc (take i l) (drop (i + 1) l) zs)) in
-      let head : take (n - 1) (without es i) ≡ without l i = ap (λ x. take (n - 1) (without x i)) whole-es ∙ ap (take (n - 1)) apart ∙ take-at (without l i) zs (n - 1) w in
-      let tail : drop n es ≡ zs = ap (drop n) whole-es ∙ drop-at l zs n c in
+      let w : length (without l i) ≡ n - 1 = omega (arith, fewer h) in
+      let head : take (n - 1) (without es i) ≡ without l i = ap (take (n - 1)) (apart h) ∙ take-at (without l i) zs (n - 1) w in
+      let tail : drop n es ≡ zs = ap (drop n) (whole es n s) ∙ drop-at l zs n (counted es n s) in
       let e : n - 1 + 1 ≡ n = omega arith in
       let more : 0 ∷ zs ≡ zeros (64 - (n - 1)) = sym (zeros-open (n - 1) (omega arith) ∙ rw e) in
-      rw left (queue-eq (ap (λ x. x ++ (0 ∷ drop n es)) head ∙ ap (λ x. without l i ++ (0 ∷ x)) tail ∙ ap (λ x. without l i ++ x) more ∙ rw w) (sym w))
+      rw (left h once) (queue-eq (ap (λ x. x ++ (0 ∷ drop n es)) head ∙ ap (λ x. without l i ++ (0 ∷ x)) tail ∙ ap (λ x. without l i ++ x) more ∙ rw w) (sym w))
 
   -- one of the entries is found
   pub there : member t (take n es) ≡ true → i < n
@@ -179,6 +237,13 @@ module _ (es : List ℕ) (n t i : ℕ) (s : QueueStored es n) (f : FirstAt (take
       ap (queueIn (set (removed es n i) (n - 1) t)) e
       ∙ appended (removed es n i) (n - 1) (stored-of (removed es n i) (n - 1) (leaves (take n es) t) left) t (omega arith)
       ∙ ap (λ (l : List ℕ). queueFrom (l ++ (t ∷ []))) (first-of (removed es n i) (n - 1) (leaves (take n es) t) left)
+
+  -- left out, and put at the head
+  pub put-first : i < n → distinct (take n es) ≡ true → queueIn (t ∷ without es i) n ≡ queueFrom (toHead (take n es) t)
+  unfolding queueFrom
+  put-first h once =
+      let w : suc (length (without (take n es) i)) ≡ n = omega (arith, fewer h) in
+      rw (left h once) (queue-eq (ap (λ x. t ∷ x) (apart h) ∙ rw w) (sym w))
 
 -- ---- finding
 

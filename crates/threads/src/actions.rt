@@ -8,11 +8,12 @@ ghost use mathlib.Core.Path.{_≡_};
 ghost use mathlib.Core.Bool.{true};
 ghost use mathlib.Core.List.{_++_, _∷_, []};
 ghost use Prim.Native.Nat.{_<_, _≤_};
+ghost use lib.Dec.{eqb};
 ghost use lib.ListN.{take, set, getD};
-ghost use Rattle.lists.specs.Lists.{distinct};
+ghost use Rattle.lists.specs.Lists.{member, distinct};
 ghost use Rattle.model.specs.State.{absent};
 ghost use Rattle.model.specs.Slices.{sliceFor};
-ghost use Rattle.model.specs.Step.{created, leaves};
+ghost use Rattle.model.specs.Step.{created, leaves, requeued};
 ghost use Rattle.model.specs.Arrays.{columns, threadsIn, tablesIn, Regular};
 ghost use Rattle.threads.specs.Entries.{QueueStored, queueIn, queueFrom};
 ghost use Rattle.event.specs.Bytes.{bytesOf};
@@ -90,13 +91,41 @@ fn block(ready: &mut [u8; 64], queue: &mut [u8; 64], queued: u32, t: u8) -> u32
     queue::leave(queue, queued, t)
 }
 
-// Its place in the queue is kept.
-fn set_priority(priorities: &mut [u8; 64], t: u8, priority: u8)
-    requires { ⌜ t < 64 ⌝ }
-    ensures { λ _. ⌜ now (priorities .exit) ≡ set (now (priorities .entry)) t priority ⌝ }
+// The thread has another priority. A ready thread that is raised goes to the tail of the queue, and one that is lowered to its head; one set to the
+// priority it has stays. A thread that is not ready only changes its number.
+fn set_priority(
+    ready: &[u8; 64],
+    priorities: &mut [u8; 64],
+    queue: &mut [u8; 64],
+    queued: u32,
+    t: u8,
+    priority: u8,
+)
+    requires { ⌜
+        (t < 64) × QueueStored (now queue) queued × (queued ≤ 64) × (distinct (take queued (now queue)) ≡ true)
+        × (getD (now ready) t 0 ≡ 1 → member t (take queued (now queue)) ≡ true)
+        ⌝ }
+    ensures { λ _. ⌜
+        (now (priorities .exit) ≡ set (now (priorities .entry)) t priority)
+        × (queueIn (now (queue .exit)) queued
+        ≡ queueFrom (requeued (eqb (getD (now (ready .entry)) t 0) 1) (getD (now (priorities .entry)) t 0) priority t
+        (take queued (now (queue .entry)))))
+        ⌝ }
 {
     let at = t as usize;
+    let old = priorities[at];
+    let on = ready[at];
     priorities[at] = priority;
+    if on != 1 {
+        return;
+    }
+    if old < priority {
+        queue::to_tail(queue, queued, t);
+        return;
+    }
+    if priority < old {
+        queue::to_head(queue, queued, t);
+    }
 }
 
 // The thread's number is free again.
@@ -179,7 +208,7 @@ pub fn act(
         Action::Ready => join(ready, policies, slices, queue, queued, t),
         Action::Block => block(ready, queue, queued, t),
         Action::SetPriority => {
-            set_priority(priorities, t, event.priority);
+            set_priority(ready, priorities, queue, queued, t, event.priority);
             queued
         }
         Action::End => {

@@ -1,13 +1,13 @@
 // The ready queue by itself, the paper's line, in a lent array: an entry is added at the tail, taken out from any place, or moved from there to
-// the tail. The places after the last stay zero.
+// the tail or to the head. The places after the last stay zero.
 ghost use mathlib.Core.Path.{_≡_};
 ghost use mathlib.Core.Bool.{true};
 ghost use mathlib.Core.List.{_++_, _∷_, []};
 ghost use Prim.Native.Nat.{_<_, _≤_};
 ghost use lib.ListN.{length, take};
 ghost use Rattle.lists.specs.Lists.{member, distinct};
-ghost use Rattle.model.specs.Step.{leaves, toTail};
-ghost use Rattle.threads.specs.Entries.{QueueStored, queueIn, queueFrom, FirstAt, removed};
+ghost use Rattle.model.specs.Step.{leaves, toTail, toHead};
+ghost use Rattle.threads.specs.Entries.{QueueStored, queueIn, queueFrom, FirstAt, without, removed};
 
 // One thread more at the tail.
 pub fn append(entries: &mut [u8; 64], queued: u32, t: u8) -> u32
@@ -75,4 +75,32 @@ pub fn to_tail(entries: &mut [u8; 64], queued: u32, t: u8)
     let at = find(entries, n, t);
     remove(entries, n, at);
     entries[n - 1] = t;
+}
+
+// The first `at` entries move one place on, over the one that stood behind them, and thread t is put at the head. No other entry moves.
+fn put_first(entries: &mut [u8; 64], at: usize, t: u8)
+    requires { ⌜ (at < 64) × (length (now entries) ≡ 64) ⌝ }
+    ensures { λ _. ⌜ now (entries .exit) ≡ t ∷ without (now (entries .entry)) at ⌝ }
+{
+    let mut to = at;
+    while 0 < to {
+        let from = to - 1;
+        let moved = entries[from];
+        entries[to] = moved;
+        to = from;
+    }
+    entries[0] = t;
+}
+
+// Thread t, one of the entries, goes to the head: those in front of it move one place on, and as many are queued as before.
+pub fn to_head(entries: &mut [u8; 64], queued: u32, t: u8)
+    requires { ⌜
+        QueueStored (now entries) queued × (queued ≤ 64) × (distinct (take queued (now entries)) ≡ true)
+        × (member t (take queued (now entries)) ≡ true)
+        ⌝ }
+    ensures { λ _. ⌜ queueIn (now (entries .exit)) queued ≡ queueFrom (toHead (take queued (now (entries .entry))) t) ⌝ }
+{
+    let n = queued as usize;
+    let at = find(entries, n, t);
+    put_first(entries, at, t);
 }

@@ -3,6 +3,7 @@ use mathlib.Core.Bool.{false}
 use mathlib.Core.List.{List}
 use Prim.Native.Nat.{ℕ, _<_, _≤_}
 use native.Mathlib.Omega.{arith}
+use lib.ListN.{take}
 use denote.Ref.{now}
 use Rattle.model.specs.State.{State}
 use Rattle.model.specs.Event.{kindOf, threadOf, priorityOf}
@@ -12,7 +13,8 @@ use Rattle.event.specs.declared.kinds.Action.{Action}
 use Rattle.event.specs.declared.kinds.Action.the-variants.{Create, Ready, Block, SetPriority, End}
 use Rattle.event.specs.Kinds.{kindNumber}
 use Rattle.event.specs.Bytes.{bytesOf}
-use Rattle.threads.proofs.ActionsLaws.{act-none, acted-create, acted-ready, acted-block, acted-priority, acted-end, own-kind, regular-ready, regular-priority, joined, regular-joined}
+use Rattle.threads.specs.Entries.{queueFrom}
+use Rattle.threads.proofs.ActionsLaws.{act-none, acted-create, acted-ready, acted-block, acted-priority, acted-end, place-of, own-kind, regular-ready, regular-priority, joined, regular-joined}
 use borrow.Author.Needs.{needs}
 use Rattle.threads.proofs.actions.act.Statement.{statement}
 use Rattle.threads.proofs.actions.act.Tie as tie
@@ -59,7 +61,10 @@ enum-told-4 : tie.Need-enum-told-4
 enum-told-4 c = search needs
 
 set-priority-requires : tie.Need-set-priority-requires
-set-priority-requires c κs = inside (c .before .before .before) SetPriority (c .before .enum-told4 .given .1) (omega arith) (omega arith)
+set-priority-requires c κs =
+    let at = c .before .before .before .before .before in
+    let t = c .before .before .before .enum-told4 .given .1 in
+    (inside at SetPriority t (omega arith) (omega arith), at .pre .stored, at .pre .few, at .pre .once, at .pre .waits (ap kindNumber t))
 
 enum-told-5 : tie.Need-enum-told-5
 enum-told-5 c = search needs
@@ -100,13 +105,16 @@ returns-3 c =
 
 returns-4 : tie.Need-returns-4
 returns-4 c =
-    let at = c .before .before .before .before in
-    let t = c .before .before .enum-told4 .given .1 in
+    let at = c .before .before .before .before .before .before in
+    let t = c .before .before .before .before .enum-told4 .given .1 in
     let low = inside at SetPriority t (omega arith) (omega arith) in
-    let records = ap (λ (l : List ℕ). threadsIn (withPriorityColumn (threads at) l)) (c .set-priority .ensures)
-    ∙ priority-put (threads at) (at .pre .sizes) (threadOf (bytes at)) low (priorityOf (bytes at)) in (
-      acted-priority (old at) (bytes at) _ (ap kindNumber t) records,
-      regular-priority (threads at) (at .pre .sizes) (threadOf (bytes at)) low _ (priorityOf (bytes at)) (c .set-priority .ensures),
+    let e = c .set-priority .ensures in
+    let line = take (at .args .queued) (now (at .args .queue)) in
+    let records = ap (λ (l : List ℕ). threadsIn (withPriorityColumn (threads at) l)) (e .0)
+    ∙ priority-put (threads at) (at .pre .sizes) (threadOf (bytes at)) low (priorityOf (bytes at)) in
+    let place = place-of (threads at) (threadOf (bytes at)) (priorityOf (bytes at)) line low in (
+      acted-priority (old at) (bytes at) _ _ (at .args .queued) (ap kindNumber t) records (e .1 ∙ ap queueFrom place),
+      regular-priority (threads at) (at .pre .sizes) (threadOf (bytes at)) low _ (priorityOf (bytes at)) (e .0),
     )
 
 returns-5 : tie.Need-returns-5
