@@ -3,8 +3,8 @@
  *     embed FILE
  *
  * does the worked run of document 01, on the way saves it to FILE and goes on from there, and damages FILE, which is then refused. Then two threads
- * of one priority take turns, and the file with a slice that no thread can have is refused too. Each answer is printed as a line of the desk program:
- * refusal, mode, partition, thread. */
+ * of one priority take turns, each is set to another priority and back, and the file with a slice that no thread can have is refused too. Each answer
+ * is printed as a line of the desk program: refusal, mode, partition, thread. */
 #include "saplingloft.h"
 
 #include <stdio.h>
@@ -97,6 +97,14 @@ static const struct saplingloft_record turns[] = {
     { SAPLINGLOFT_KIND_TICK, 0, 0, 0, 3000, 0, 0 },
     { SAPLINGLOFT_KIND_TICK, 0, 0, 0, 4000, 0, 0 },
 };
+/* Thread 2 is raised and lowered again, and runs on: who is lowered stands before its equals. Thread 3 is lowered and raised again, and waits: who is
+ * raised stands behind them. */
+static const struct saplingloft_record priorities[] = {
+    { SAPLINGLOFT_KIND_SET_PRIORITY, 2, 0, 20, 4100, 0, 0 },
+    { SAPLINGLOFT_KIND_SET_PRIORITY, 2, 0, 10, 4200, 0, 0 },
+    { SAPLINGLOFT_KIND_SET_PRIORITY, 3, 0, 5, 4300, 0, 0 },
+    { SAPLINGLOFT_KIND_SET_PRIORITY, 3, 0, 10, 4400, 0, 0 },
+};
 #define COUNT(array) (sizeof(array) / sizeof *(array))
 
 static void tell_all(struct saved *kept, const struct saplingloft_record *records, size_t count)
@@ -125,6 +133,7 @@ int main(int count, char **words)
     if (!refused(&restored, words[1]) || start(&kept) != SAPLINGLOFT_ACCEPTED)
         return 1;
     tell_all(&kept, turns, COUNT(turns));
+    tell_all(&kept, priorities, COUNT(priorities));
     kept.state.slices[3] = SAPLINGLOFT_SLICE + 1;
     return !refused(&kept, words[1]);
 }

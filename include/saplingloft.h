@@ -74,7 +74,9 @@ enum saplingloft_mode {
     SAPLINGLOFT_MODE_AT_LIMIT = 3   /* all with a share compete, and no competing partition has budget */
 };
 
-/* What an event tells. */
+/* What an event tells. A set priority also moves a ready thread in the ready queue, before the decision, as POSIX has it for pthread_setschedprio: a
+ * thread that is raised goes to the tail of the whole queue, one that is lowered to its head, and one that is set to the priority it has stays. The
+ * running thread moves like any other. A thread that is not ready only gets its new priority. */
 enum saplingloft_kind {
     SAPLINGLOFT_KIND_TICK = 1,
     SAPLINGLOFT_KIND_CREATE = 2,
@@ -87,9 +89,10 @@ enum saplingloft_kind {
 
 /* The policy of a thread, which its create names: whether it takes turns with threads of its partition that have its priority. (The policy of a
  * sheet, P, is another one: how partitions are compared.) A thread that is first in, first out keeps its place in the ready queue until it blocks or
- * ends. A round-robin thread has a slice of SAPLINGLOFT_SLICE ticks. Each accepted tick counts down the slice of the thread that ran until the tick,
- * by one however little of the tick it ran; at 0 the slice is full again, and the thread goes to the tail of the ready queue, before the decision. A
- * create and a ready give a full slice too. A block, a new priority, a resume, and another thread that comes in between leave it as it is. */
+ * ends, or gets another priority. A round-robin thread has a slice of SAPLINGLOFT_SLICE ticks. Each accepted tick counts down the slice of the thread
+ * that ran until the tick, by one however little of the tick it ran; at 0 the slice is full again, and the thread goes to the tail of the ready
+ * queue, before the decision. A create and a ready give a full slice too. A block, a new priority, wherever it moves the thread, a resume, and
+ * another thread that comes in between leave the slice as it is. */
 enum saplingloft_policy {
     SAPLINGLOFT_POLICY_FIRST_IN_FIRST_OUT = 0,
     SAPLINGLOFT_POLICY_ROUND_ROBIN = 1
@@ -123,7 +126,7 @@ struct saplingloft_state {
     /* 424 */ uint8_t masks[SAPLINGLOFT_THREADS];       /* bit m is set where core m may run the thread */
     /* 488 */ uint8_t policies[SAPLINGLOFT_THREADS];    /* enum saplingloft_policy: 0 or 1 */
     /* 552 */ uint8_t slices[SAPLINGLOFT_THREADS];      /* ticks that are left: 1 to SAPLINGLOFT_SLICE of a round-robin thread, 0 of any other */
-    /* 616 */ uint8_t queue[SAPLINGLOFT_THREADS];       /* the ready threads in order of becoming ready, or of a slice's end, then zeros */
+    /* 616 */ uint8_t queue[SAPLINGLOFT_THREADS];       /* the ready threads, as ready, a slice's end and set priority order them; then zeros */
 };
 
 #ifdef __cplusplus

@@ -1,8 +1,8 @@
 #!/usr/bin/env python3
 """tools/day: its numbers are those of document 01's words, on the paper's run, on runs of another scheduler and on days made here; each event stands
-beside the desk's own line; refusals name their line; what starved is named, and what is not promised; a slice that ended is told where document 02,
-(i), has it; whatever is in the folder is told in a sentence; the README shows what the tool prints; and where the program says something else than
-the rules, the tool says so.
+beside the desk's own line; refusals name their line; what starved is named, and what is not promised; a slice that ended, and what a new priority did
+to the thread's place in the line, are told as document 02, (i) and (ii), has them; whatever is in the folder is told in a sentence; the README shows
+what the tool prints; and where the program says something else than the rules, the tool says so.
 """
 import random
 import re
@@ -13,7 +13,7 @@ import tempfile
 from pathlib import Path
 
 from expecting import Expecting
-from folders import ROOT, VECTORS, WORKED_SHEET, WORKED_TEXT, Judged, desk_lines, fill, random_day, sheet_of, show, slices, table
+from folders import ROOT, VECTORS, WORKED_SHEET, WORKED_TEXT, Judged, desk_lines, fill, places, random_day, sheet_of, show, slices, table
 
 sys.path.insert(0, str(ROOT / "tools"))
 from lib import programs, records, replay, sheets, why
@@ -172,6 +172,89 @@ def turns_told(folder, seed):
     return decisions(f"turns of seed {seed}", sheet, data, lines), len(wanted)
 
 
+# The example of places, by hand from document 02, (ii): the thread that runs after each event.
+PLACES = (
+    # created; ready, the lower one first; two ticks; thread 5 is raised to the others' priority, and a tick; they block, and a tick
+    [255, 255, 255, 5, 3, 3, 3, 3, 3, 3, 4, 5, 5]
+    # both come back; thread 4 is raised, and a tick; it is lowered, and a tick
+    + [5, 5, 4, 4, 4, 4]
+    # thread 4 is lowered below them and raised again, and a tick; thread 5 is set to the priority that it has
+    + [5, 5, 5, 5]
+    # thread 3 blocks and is set to another priority, and a tick; it is ready, and lowered, and a tick; all end, thread 3 last
+    + [5, 5, 5, 3, 3, 3, 3, 3, 255]
+    # two that are round robin are created and ready; two ticks; thread 6 is raised and lowered; of three ticks the second ends its slice; refused
+    + [255, 255, 6, 6, 6, 6, 6, 6, 6, 7, 7, 0]
+)
+# what is said beside each event that sets a priority, and the line then
+PLACES_SAID = {
+    9: ("raised, thread 5 went to the tail", "3, 4, 5"), 16: ("raised, thread 4 went to the tail", "5, 3, 4"),
+    18: ("lowered, thread 4 went to the head", "4, 5, 3"), 20: ("lowered, thread 4 went to the head", "4, 5, 3"),
+    21: ("raised, thread 4 went to the tail", "5, 3, 4"), 23: ("thread 5 had this priority and stayed", "5, 3, 4"),
+    25: ("thread 3 is not ready and has no place", "5, 4"), 28: ("lowered, thread 3 went to the head", "3, 5, 4"),
+    39: ("raised, thread 6 went to the tail", "7, 6"), 40: ("lowered, thread 6 went to the head", "6, 7"),
+}
+
+
+def places_shown(folder):
+    """Threads that are raised and lowered: each has its turn where the paper puts it, and what became of its place is told beside the event, and by
+    --at."""
+    example = ROOT / "examples/places"
+    done = show(example)
+    rows = re.findall(r"^ +(\d+)(?:-(\d+))?  \d\d \d \d\d (\d\d\d)  .*$", done.stdout, re.M)
+    ran = [int(thread) for first, last, thread in rows for _ in range(int(first), int(last or first) + 1)]
+    expect(ran == PLACES, f"the threads of the example of places are {ran}")
+    said = {int(number): words for number, words in re.findall(r"^ +(\d+)  .* priority \d to \d+ .*, free time; (.*)$", done.stdout, re.M)}
+    expect(said == {number: words for number, (words, _) in PLACES_SAID.items()}, f"beside the example's new priorities is said {said}")
+    for number, (_, line) in PLACES_SAID.items():
+        last = show(example, "--at", str(number)).stdout.splitlines()[-1]
+        expect(last.startswith("the line, ") and last.endswith(f": {line}"), f"after event {number} of the example of places: {last}")
+    has(done, "\n       42  00 1 03 007  13000 tick ", "screen runs (thread 7), free time; the slice of thread 6 ended\n",
+        "REFUSED (11), line 60 of day.txt: there is no thread 9\n")
+    has(show(example, "--at", "9"), "it is the first of 3, 4, 5 in the line\n"
+        "this event raised thread 5 from priority 5 to 10: it went to the tail of the line\n"
+        "the line, in order of becoming ready, or of being raised: 3, 4, 5\n")
+    has(show(example, "--at", "18"), "it is the first of 4, 5, 3 in the line\n"
+        "this event lowered thread 4 from priority 20 to 10: it went to the head of the line\n"
+        "the line, in order of becoming ready, or of being raised, with those in front that were lowered (4): 4, 5, 3\n")
+    has(show(example, "--at", "23"), "\nthis event set thread 5 to the priority that it had, 10: it kept its place in the line\n")
+    has(show(example, "--at", "25"), "\nthis event set thread 3 from priority 10 to 30: it is not ready, and has no place in the line\n")
+    has(show(example, "--at", "40"), "\nthread 6 is round robin: 2 of the 4 ticks of its slice are left\n"
+        "this event lowered thread 6 from priority 11 to 10: it went to the head of the line, and kept what is left of its slice\n"
+        "the line, in order of becoming ready, or of the end of a slice, with those in front that were lowered (6): 6, 7\n")
+    part = (ROOT / "README.md").read_text().split("## A new priority")[1].split("\n## ")[0]
+    shown = [line[4:] for line in part.splitlines() if line.startswith("    ")]
+    expect(len(shown) > 3 and all(line in done.stdout.splitlines() for line in shown), "the README shows other places than the example")
+    # a thread of another core has a place in the line too; and after a refused event the change before it stands
+    text = "0 create 0 partition 0 priority 9 mask 2\n0 priority 0 to 8\n0 ready 0\n0 priority 0 to 7\n"
+    text += "0 create 1 partition 0 priority 7 mask 1\n0 ready 1\n0 priority 0 to 8\n0 ready 0\n"
+    has(show(fill(folder, sheet_of(2, 1000, (100,)), text)), " idle; thread 0 is not ready and has no place\n",
+        " idle; lowered, thread 0 went to the head\n", " partition 0 runs (thread 1), underload; raised, thread 0 went to the tail\n")
+    has(show(folder, "--at", "8"), "\nthe last accepted event raised thread 0 from priority 7 to 8: it went to the tail of the line\n"
+        "the line, in order of becoming ready, or of being raised: 1, 0\n")
+
+
+# what is said of a new priority, in a listing and by --at
+SAID = {"raised": "; raised, thread {} went to the tail", "lowered": "; lowered, thread {} went to the head",
+        "same": "; thread {} had this priority and stayed", "unready": "; thread {} is not ready and has no place"}
+TOLD = {"raised": "this event raised thread {} from priority {} to {}: it went to the tail of the line",
+        "lowered": "this event lowered thread {} from priority {} to {}: it went to the head of the line",
+        "same": "this event set thread {} to the priority that it had, {}: it kept its place in the line",
+        "unready": "this event set thread {} from priority {} to {}: it is not ready, and has no place in the line"}
+
+
+def places_told(folder, seed):
+    """On a day of few priorities each event that sets one says what that did to the thread's place, and no other event says such a thing."""
+    shares = ((60, 40), (100,))[seed % 2]
+    sheet, data = sheet_of(3, 400, shares), random_day(seed, 3, 400, len(shares), 8, 250, (10, 11, 12), (0, 1))
+    lines = desk_lines(fill(folder, sheet, data=data), data)
+    rows = re.findall(r"^ +(\d+)  .*(; [^;]*(?:tail|head|stayed|place))$", show(folder).stdout, re.M)
+    found = {number: did for number, (did, _, _, _) in enumerate(places(data, lines), 1) if did}
+    wanted = {number: SAID[did[0]].format(did[1]) for number, did in found.items()}
+    said = {int(number): words for number, words in rows}
+    expect(said == wanted, f"seed {seed}: said of new priorities is {said}, and by the paper it is {wanted}")
+    return decisions(f"places of seed {seed}", sheet, data, lines), [did[0] for did in found.values()]
+
+
 def statuses(folder):
     """What is bad usage, what is refused, and what is in the folder."""
     good = fill(folder / "good", WORKED_SHEET, "0 tick # a remark\n")
@@ -238,13 +321,14 @@ def damaged(folder, seed):
 
 def decisions(name, sheet, data, lines):
     """Every decision of a run is explained: the mode and the thread are the desk's, each other competing job is told why it came later, and a slice
-    that ended, and what is left of one, are as document 02, (i), has them."""
+    that ended, what is left of one, what a new priority did, and the line are as document 02, (i) and (ii), has them."""
     read, told = [programs.read_line(line) for line in lines], 0
     if programs.sheet_refused(read):
         return 0
     sheet = sheets.read(sheet)
     names = [f"job {p}" for p in range(len(sheet.shares))]
-    for step, (ended, left) in zip(replay.replay(sheet, records.split(data), read), slices(data, lines), strict=True):
+    steps = replay.replay(sheet, records.split(data), read)
+    for step, (ended, left), (did, line, raised, lowered) in zip(steps, slices(data, lines), places(data, lines), strict=True):
         text = list(why.text(step, Day(records.split(data), [], []), names))
         if step.accepted and step.line.mode:
             told += 1
@@ -254,9 +338,15 @@ def decisions(name, sheet, data, lines):
             expect(f"\nmode {step.line.mode}, " in said and f"\nthread {step.line.thread} runs" in said and len(later) == compete - 1,
                    f"{name}: the decision after event {step.number} is told as {said}")
             expect(re.findall(r"this tick ended the slice of thread (\d+),", said) == [str(ended)] * (ended is not None)
-                   and (ended is None or text[-1].endswith(f" {ended}"))
                    and re.findall(rf"\nthread {step.line.thread} is round robin: (\d) of the 4 ticks", said) == [str(left)] * (left > 0),
                    f"{name}: after event {step.number} the slice of {ended} ended, {left} ticks are left, and it is told as {said}")
+            set_to = [TOLD[did[0]].format(*did[1:3 if did[0] == "same" else 4])] if did else []
+            expect([line.removesuffix(", and kept what is left of its slice") for line in text if line.startswith("this event ")] == set_to,
+                   f"{name}: event {step.number} did {did}, and it is told as {said}")
+            front = f", with those in front that were lowered ({', '.join(map(str, lowered))})" if lowered else ""
+            expect(re.fullmatch(f"the line, in order of becoming ready(, or of the end of a slice)?{', or of being raised' * bool(raised)}"
+                                + re.escape(f"{front}: {', '.join(map(str, line))}"), text[-1]) is not None,
+                   f"{name}: after event {step.number} the line is {line}, of which {raised} were raised and {lowered} lowered: {text[-1]}")
     return told
 
 
@@ -300,10 +390,15 @@ def main():
         found = [turns_told(folder / f"turns{seed}", seed) for seed in range(6)]
         told += sum(count for count, _ in found)
         expect(sum(count for _, count in found) > 30, f"only {sum(count for _, count in found)} turns were told")
+        found = [places_told(folder / f"places{seed}", seed) for seed in range(8)]
+        told += sum(count for count, _ in found)
+        words = [word for _, did in found for word in did]
+        expect(all(words.count(word) > 10 for word in SAID), f"only so many new priorities were told: { {word: words.count(word) for word in SAID} }")
         expect(stretches > 500, f"only {stretches} stretches were compared")
         starving(folder / "starving")
         example()
         turns()
+        places_shown(folder / "places")
         statuses(folder / "statuses")
         for seed in range(40):
             damaged(folder / f"damaged{seed}", seed)

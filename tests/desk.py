@@ -59,13 +59,16 @@ def told(program, sheet, events, waits):
 
 
 def busy(count):
-    """A long stream of ticks, wakes and sleeps, some of them refused, of threads of which some take turns."""
+    """A long stream of ticks, wakes, sleeps and new priorities, some of them refused, of threads of which some take turns. Now and then the clock
+    jumps, and what comes then is refused until a resume."""
     draw = random.Random(count)
     events = [record(2, 0, t, t % 2, draw.randrange(2), 1, int(t < 6)) for t in range(8)]
     stamp = 0
     while len(events) < count:
-        stamp += draw.choice((0, 200, 500, 1000, 3000))
-        events.append(draw.choice((record(1, stamp), record(3, stamp, draw.randrange(9)), record(4, stamp, draw.randrange(9)))))
+        stamp += draw.choice((0, 100, 200, 400)) if draw.random() < 0.99 else 3000
+        thread = draw.randrange(9)
+        kind = draw.choice((1, 3, 4, 5)) if draw.random() < 0.95 else 7
+        events.append(record(kind, stamp, thread * (kind in (3, 4, 5)), priority=draw.randrange(2) * (kind == 5)))
     return b"".join(events)
 
 

@@ -159,6 +159,31 @@ def slices(data, lines):
         yield ended, left[running] if policies.get(running) == 1 else 0
 
 
+def places(data, lines):
+    """For each event, from events and lines alone, as document 01's table and document 02, (i) and (ii), put it: what a set priority did to its
+    thread (`raised`, `lowered`, `same` or `unready`), the thread, and its priority before and after, or None for every other event; the line then;
+    and those in it whose place comes from being raised, and from being lowered."""
+    line, priorities, moved = [], {}, {}
+    for at, (text, (ended, _)) in enumerate(zip(lines, slices(data, lines))):
+        did, (kind, thread, _, priority) = None, data[12 * at:12 * at + 4].ljust(4, b"\0")
+        others = [t for t in line if t != thread]
+        if text[:2] == b"00" and kind == 3:
+            line, moved[thread] = line + [thread], "ready"
+        elif text[:2] == b"00" and kind in (4, 6):
+            line = others
+        elif text[:2] == b"00" and kind == 5:
+            before = priorities[thread]
+            word = "unready" if thread not in line else "same" if priority == before else "raised" if priority > before else "lowered"
+            did = word, thread, before, priority
+            if word in ("raised", "lowered"):
+                line, moved[thread] = others + [thread] if word == "raised" else [thread] + others, word
+        elif ended is not None:
+            line, moved[ended] = [t for t in line if t != ended] + [ended], "ended"
+        if text[:2] == b"00" and kind in (2, 5):
+            priorities[thread] = priority
+        yield did, line, [t for t in line if moved[t] == "raised"], [t for t in line if moved[t] == "lowered"]
+
+
 def desk_lines(folder, data):
     out = subprocess.run([DESK], cwd=folder, input=data, stdout=subprocess.PIPE, check=True, timeout=60).stdout
     return [out[i:i + 12] for i in range(0, len(out), 12)]

@@ -1,9 +1,10 @@
 #!/usr/bin/env python3
 """Document 01's example of the guarantee, on a hostile list of events: W 100, C 1000, four partitions, share 10: at least 7,750 cycles
-in 200 ticks. The partition with 10 percent waits throughout, at the lowest priority, in every other list with two threads that take turns; the
-others wake, sleep and change priority so as to run past their budgets. What was charged is worked out here from the events and the printed lines
-alone. And a list on which the bound is reached exactly, tests/vectors/tight, made for another scheduler: W 5, C 100, shares 70, 25 and 5; partition 0
-waits throughout, is promised 350 less twice 75, and between the ticks at 1000 and 2000 gets 200, and not one more.
+in 200 ticks. The partition with 10 percent waits throughout, at the lowest priority, in every other list with two threads that take turns and are
+raised and lowered to each other's priority; the others wake, sleep and change priority so as to run past their budgets. What was charged is worked
+out here from the events and the printed lines alone. And a list on which the bound is reached exactly, tests/vectors/tight, made for another
+scheduler: W 5, C 100, shares 70, 25 and 5; partition 0 waits throughout, is promised 350 less twice 75, and between the ticks at 1000 and 2000 gets
+200, and not one more.
 
     tests/guarantee.py DESK
 """
@@ -28,7 +29,7 @@ def hostile(rate, seed, rounds, policy):
     sleep for a window of ticks of double length, so that it is charged twenty times its budget. Then two of them wake above it and use
     the free time of the third, which wakes, with all of its budget, when the waiting partition has budget again. All that time, two windows of
     full ticks, they sleep, wake and change priority at odd moments, each in `rate` of a hundred periods, so that they run past their budgets. The
-    policy is that of the threads; where it is round robin, two of the waiting partition take turns."""
+    policy is that of the threads; where it is round robin, two of the waiting partition take turns, and change their priority as often."""
     draw = random.Random(seed)
     stamp = 2**32 - 50 * TICK
     events = [(7, record(7, stamp), stamp)]
@@ -52,8 +53,10 @@ def hostile(rate, seed, rounds, policy):
                     moves += [(away, 4, other), (back, 3, other)]
                 elif draw.random() < rate / 100:
                     moves.append((draw.randrange(TICK), 5, other))
+            if policy == 1 and draw.random() < rate / 100:
+                moves.append((draw.randrange(TICK), 5, draw.choice((WAITING, SECOND))))
             for offset, kind, other in sorted(moves):
-                priority = draw.randrange(2, 256) if kind == 5 else 0
+                priority = 0 if kind != 5 else draw.randrange(2) if other in (WAITING, SECOND) else draw.randrange(2, 256)
                 events.append((kind, record(kind, stamp + offset, other, priority=priority), stamp + offset))
             stamp += TICK
             events.append((1, record(1, stamp), stamp))

@@ -1,6 +1,7 @@
 #!/usr/bin/env python3
 """The trace that tools/day writes, in the Chrome trace event format: a process for each job, a track for each thread, slices that do not overlap and
-add up to what document 01's words say, counters for used and remaining, and an instant for each refusal and for each end of a time slice.
+add up to what document 01's words say, counters for used and remaining, and an instant for each refusal, for each end of a time slice, and for each
+new priority that moves a thread in the line.
 """
 import json
 import shutil
@@ -9,9 +10,11 @@ import tempfile
 from pathlib import Path
 
 from expecting import Expecting
-from folders import ROOT, WORKED_SHEET, WORKED_TEXT, Judged, desk_lines, fill, random_day, sheet_of, show, slices
+from folders import ROOT, WORKED_SHEET, WORKED_TEXT, Judged, desk_lines, fill, places, random_day, sheet_of, show, slices
 
 expect = Expecting("traces")
+# what an instant of a thread's track is called
+ENDED, RAISED, LOWERED = "time slice ended", "raised, to the tail of the line", "lowered, to the head of the line"
 
 
 class Trace:
@@ -24,7 +27,7 @@ class Trace:
         self.events = json.loads(out.read_text())["traceEvents"]
         self.processes = {e["pid"]: e["args"]["name"] for e in self.events if e["name"] == "process_name"}
         self.tracks = {(e["pid"], e["tid"]): e["args"]["name"] for e in self.events if e["name"] == "thread_name"}
-        self.slices, self.counters, self.instants, self.ends = {}, {}, [], []
+        self.slices, self.counters, self.instants, self.moves = {}, {}, [], []
         expect(len(set(self.processes.values())) == len(self.processes) and 0 not in self.processes, f"{folder}: processes are {self.processes}")
         expect(len({tid for _, tid in self.tracks}) == len(self.tracks), f"{folder}: two tracks have one number")
         for event in self.events:
@@ -34,8 +37,7 @@ class Trace:
             elif event["ph"] == "C":
                 self.counters.setdefault((self.processes[event["pid"]], event["name"]), []).append((event["ts"], event["args"]["cycles"]))
             elif event["ph"] == "i" and event["s"] == "t":
-                expect(event["name"] == "time slice ended", f"{folder}: an instant of a track is called {event['name']}")
-                self.ends.append((event["ts"], self.tracks[event["pid"], event["tid"]]))
+                self.moves.append((event["ts"], self.tracks[event["pid"], event["tid"]], event["name"]))
             elif event["ph"] == "i":
                 self.instants.append((event["name"], event.get("args")))
             else:
@@ -72,10 +74,27 @@ def turns(folder):
     """The example of turns: the ends of slices stand on the tracks of their threads."""
     shutil.copytree(ROOT / "examples/turns", folder)
     trace = Trace(folder)
-    expect(trace.ends == [(time, f"thread {thread}, at times round robin") for time, thread in TURNS], f"slices end at {trace.ends}")
+    expect(trace.moves == [(time, f"thread {thread}, at times round robin", ENDED) for time, thread in TURNS], f"slices end at {trace.moves}")
     found = trace.slices["screen", "thread 4, at times round robin"][:3]
     expect(found == [(0, 16000, "waiting"), (16000, 20000, "running"), (20000, 24000, "waiting")], f"thread 4 has the slices {found}")
     expect([name for name, _ in trace.instants] == ["refused 12"], f"the instants are {trace.instants}")
+
+
+# what moves threads in the example of places, by hand
+PLACES = [(2500, "thread 5", RAISED), (4500, "thread 4", RAISED), (5500, "thread 4", LOWERED), (6500, "thread 4", LOWERED),
+          (6600, "thread 4", RAISED), (8500, "thread 3", LOWERED), (11500, "thread 6, round robin", RAISED),
+          (11700, "thread 6, round robin", LOWERED), (13000, "thread 6, round robin", ENDED)]
+
+
+def moved(folder):
+    """The example of places: what moves a thread stands on its track. Thread 4 waits behind thread 3, and runs when it is raised and when it is
+    lowered again, until it is lowered below its equals."""
+    shutil.copytree(ROOT / "examples/places", folder)
+    trace = Trace(folder)
+    expect(trace.moves == PLACES, f"threads move at {trace.moves}")
+    found = trace.slices["screen", "thread 4"]
+    expect(found == [(0, 3500, "waiting"), (3500, 3600, "running"), (4300, 4500, "waiting"), (4500, 6500, "running"), (6500, 9000, "waiting")],
+           f"thread 4 has the slices {found}")
 
 
 def measured(folder, seed):
@@ -90,8 +109,12 @@ def measured(folder, seed):
         budget = judged.shares[p] * 4 * 400 // 100
         expect(all((t, budget - u) == r for (t, u), r in zip(used, remaining, strict=True)), f"day {seed}: remaining is not budget less used")
     expect(trace.total("the day", "idle") == sum(e for e, r in zip(judged.elapsed, judged.ran) if r is None), f"day {seed}: idle time is other")
-    ends = [ended for ended, _ in slices(data, lines) if ended is not None]
-    expect([int(name.split()[1].strip(",")) for _, name in trace.ends] == ends and bool(ends) == bool(seed % 2), f"day {seed}: slices of {ends} end")
+    names, moves = {"raised": RAISED, "lowered": LOWERED}, []
+    for (ended, _), (did, *_) in zip(slices(data, lines), places(data, lines)):
+        moves += [(ended, ENDED)] if ended is not None else [(did[1], names[did[0]])] if did and did[0] in names else []
+    kinds = {move for _, move in moves}
+    expect([(int(name.split()[1].strip(",")), move) for _, name, move in trace.moves] == moves and {RAISED, LOWERED} <= kinds
+           and (ENDED in kinds) == bool(seed % 2), f"day {seed}: in the line moved {moves}")
     refused = sum(line[:2] != b"00" for line in lines)
     expect(sum(name.startswith("refused") for name, _ in trace.instants) == refused, f"day {seed}: refusals are missing")
     expect(sum(name == "resume" for name, _ in trace.instants) == judged.kinds.count(7), f"day {seed}: resumes are missing")
@@ -101,9 +124,10 @@ def main():
     with tempfile.TemporaryDirectory() as name:
         worked(Path(name) / "worked")
         turns(Path(name) / "turns")
+        moved(Path(name) / "places")
         for seed in range(10):
             measured(Path(name) / f"day{seed}", seed)
-    print(f"traces: the traces of 12 days, {expect.wrong} things wrong")
+    print(f"traces: the traces of 13 days, {expect.wrong} things wrong")
     sys.exit(expect.wrong != 0)
 
 

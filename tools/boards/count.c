@@ -3,7 +3,8 @@
  * The emulator gives each instruction a nanosecond (-icount shift=0), and SysTick counts 25 million times in a second: 40 instructions are one count.
  * Means are of a stream that goes round through a block, a ready, a new priority and a tick, a quarter of a tick apart; every event of it is
  * accepted. Every other thread is round robin. The largest numbers are of it and of what else can happen: creating, making ready and ending one
- * thread after the other, ticks that end a slice, a refusal; under both policies of a sheet. A resume, which clears all rows, is counted apart.
+ * thread after the other, a new priority that takes the first thread to the tail or the last one to the head, ticks that end a slice, a refusal;
+ * under both policies of a sheet. A resume, which clears all rows, is counted apart.
  *
  * Prints a line for each size: partitions, threads, window; instructions of event, mean and most, of an event of a run, mean and most, of the test of
  * a state, mean and most, and of a resume; bytes of stack of start, event, run, decision and remaining. */
@@ -195,11 +196,17 @@ static void tell_of(enum saplingloft_kind kind, uint32_t thread, uint32_t partit
     tell(wanted, kind == SAPLINGLOFT_KIND_RESUME ? RESUME_EVENT : OTHER_EVENT);
 }
 
-/* Thread 0 stands first in the ready queue, has the highest priority for a slice of ticks, and goes to the tail. The ticks have no length, so that
+/* Thread 0 stands first in the ready queue. Raised above all others it goes to the tail, and lowered a little to the head. It still has the highest
+ * priority: after a slice of ticks it goes to the tail, and lowered below all others to the head, where it was. The ticks have no length, so that
  * nobody's budget is used. */
-static void end_slice(uint32_t threads)
+static void move_about(uint32_t threads)
 {
     tell_of(SAPLINGLOFT_KIND_SET_PRIORITY, 0, 0, 255, 0, SAPLINGLOFT_ACCEPTED);
+    if (state.queue[threads - 1] != 0)
+        stop("a raised thread is not at the tail");
+    tell_of(SAPLINGLOFT_KIND_SET_PRIORITY, 0, 0, 254, 0, SAPLINGLOFT_ACCEPTED);
+    if (state.queue[0] != 0)
+        stop("a lowered thread is not at the head");
     for (uint32_t i = 0; i < SAPLINGLOFT_SLICE; i++)
         tell_of(SAPLINGLOFT_KIND_TICK, 0, 0, 0, 0, SAPLINGLOFT_ACCEPTED);
     if (state.queue[threads - 1] != 0)
@@ -217,7 +224,7 @@ static void size(uint32_t partitions, uint32_t threads, uint32_t window, uint32_
         tell_of(SAPLINGLOFT_KIND_READY, t, 0, 0, 0, SAPLINGLOFT_ACCEPTED);
         tell_of(SAPLINGLOFT_KIND_READY, t, 0, 0, 0, SAPLINGLOFT_REFUSED_READINESS);
     }
-    end_slice(threads);
+    move_about(threads);
     make_stream(threads);
     run();
     make_stream(threads);

@@ -37,7 +37,7 @@ class Lanes:
         self.home = {}           # the partition of each thread that exists
         self.used = [[(0, 0)] for _ in sheet.shares]
         self.ticks, self.resumes, self.refusals = [], [], []
-        self.ends = []           # of slices: the time, and the thread's partition and number
+        self.moves = []          # in the line: the time, the thread's partition and number, and what moved it
         self.idle = Track()
         self.running = NOBODY
         self.end = 0
@@ -53,8 +53,9 @@ class Lanes:
             self.resumes.append(step.end)
         self.take_used(step)
         self.take_states(step)
-        if step.scheduler.ended is not None:
-            self.ends.append((step.end, (self.home[step.scheduler.ended], step.scheduler.ended)))
+        if step.scheduler.moved is not None:
+            number, move = step.scheduler.moved
+            self.moves.append((step.end, (self.home[number], number), move))
 
     def close(self):
         """Nothing is left open: a piece without an end goes on to the end of the day."""

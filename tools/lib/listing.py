@@ -1,6 +1,6 @@
 """Each event beside its line, in words."""
 from lib import records
-from lib.scheduler import MODES, NOBODY
+from lib.scheduler import LOWERED, MODES, NOBODY, RAISED
 
 
 def meaning(step, day, names):
@@ -9,8 +9,8 @@ def meaning(step, day, names):
     if line.refusal:
         return f"REFUSED ({line.refusal}), {day.source(step.number - 1)}: {step.words}"
     if line.thread == NOBODY:
-        return "idle"
-    return f"{names[line.partition]} runs (thread {line.thread}), {MODES[line.mode]}{turn(step)}"
+        return f"idle{place(step)}"
+    return f"{names[line.partition]} runs (thread {line.thread}), {MODES[line.mode]}{turn(step)}{place(step)}"
 
 
 def turn(step):
@@ -19,6 +19,17 @@ def turn(step):
     if ended in (None, thread) or step.scheduler.threads[ended].partition != step.line.partition:
         return ""
     return f"; the slice of thread {ended} ended"
+
+
+def place(step):
+    """The event set a priority: what that did to the thread's place in the line."""
+    change = step.scheduler.changed
+    if change is None:
+        return ""
+    if not change.ready:
+        return f"; thread {change.thread} is not ready and has no place"
+    return {RAISED: f"; raised, thread {change.thread} went to the tail", LOWERED: f"; lowered, thread {change.thread} went to the head",
+            None: f"; thread {change.thread} had this priority and stayed"}[change.move]
 
 
 class Row:

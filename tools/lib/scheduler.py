@@ -1,5 +1,5 @@
-"""Document 01's rules for one core, with the time slices of document 02, (i), as plain as they can be said: what an event is refused for, what it
-charges and changes, and who runs next.
+"""Document 01's rules for one core, with the time slices of document 02, (i), and the places after a changed priority, (ii), as plain as they can be
+said: what an event is refused for, what it charges and changes, and who runs next.
 
 The tools need this to say why, and what was used. They never answer by it alone: replay.py holds every step to the line of the proved desk.
 """
@@ -14,6 +14,8 @@ SLICE = 4
 NOBODY = 255
 IDLE, FREE_TIME, UNDERLOAD, AT_LIMIT = range(4)
 MODES = ("idle", "free time", "underload", "at limit")
+# what moves a thread that is in the line: its slice ended or it was raised, and it goes to the tail; or it was lowered, and it goes to the head
+ENDED, RAISED, LOWERED = range(3)
 
 
 class Refusal(NamedTuple):
@@ -27,10 +29,26 @@ class Decision(NamedTuple):
     thread: int
 
 
+class Change(NamedTuple):
+    """A set priority: the thread's priority before and after it, and whether the thread is ready, and so has a place in the line."""
+    thread: int
+    before: int
+    after: int
+    ready: bool
+
+    @property
+    def move(self):
+        """How it moves the thread; None where the thread stays, or is not in the line."""
+        if not self.ready or self.after == self.before:
+            return None
+        return RAISED if self.after > self.before else LOWERED
+
+
 class Thread:
-    """A thread that exists. Its slice is the ticks that are left of it; a thread that is not round robin has none."""
+    """A thread that exists. Its slice is the ticks that are left of it; a thread that is not round robin has none. Its place in the line it has from
+    the last thing that moved it there, or from becoming ready, which is None."""
     def __init__(self, partition, priority, mask, policy):
-        self.partition, self.priority, self.mask, self.policy, self.ready = partition, priority, mask, policy, False
+        self.partition, self.priority, self.mask, self.policy, self.ready, self.moved = partition, priority, mask, policy, False, None
         self.refill()
 
     @property
@@ -128,7 +146,8 @@ class Scheduler:
         self.threads = {}
         self.line = []
         self.running = NOBODY
-        self.ended = None  # the thread whose slice the last accepted event ended
+        self.moved = None    # the thread that the last accepted event moved in the line, and what moved it
+        self.changed = None  # the change that the last accepted event was, if it set a priority
         self.competing = set()
         self.stamp = 0
         self.forget()
@@ -142,6 +161,11 @@ class Scheduler:
     def allowed(self, thread):
         """Whether this core may run it."""
         return self.threads[thread].mask >> self.sheet.core & 1 == 1
+
+    @property
+    def ended(self):
+        """The thread whose slice the last accepted event ended."""
+        return self.moved[0] if self.moved and self.moved[1] == ENDED else None
 
     def running_partition(self):
         return None if self.running == NOBODY else self.threads[self.running].partition
@@ -219,20 +243,18 @@ class Scheduler:
 
     def act(self, event):
         """Step 2: what the kind does."""
-        self.ended = None
+        self.moved = self.changed = None
         if event.kind == TICK:
             self.next_slot()
             self.count_down()
         elif event.kind == CREATE:
             self.threads[event.thread] = Thread(event.partition, event.priority, event.mask, event.policy)
         elif event.kind == READY:
-            self.threads[event.thread].ready = True
-            self.threads[event.thread].refill()
-            self.line.append(event.thread)
+            self.join(event.thread)
         elif event.kind == BLOCK:
             self.leave(event.thread)
         elif event.kind == PRIORITY:
-            self.threads[event.thread].priority = event.priority
+            self.set_priority(event.thread, event.priority)
         elif event.kind == END:
             if self.threads[event.thread].ready:
                 self.leave(event.thread)
@@ -256,9 +278,29 @@ class Scheduler:
         thread.slice -= 1
         if thread.slice == 0:
             thread.refill()
-            self.line.remove(self.running)
-            self.line.append(self.running)
-            self.ended = self.running
+            self.move(self.running, ENDED)
+
+    def set_priority(self, number, priority):
+        """A ready thread that is raised goes to the tail of the line, one that is lowered to its head, and one set to the priority it has stays. What
+        is left of its slice is kept."""
+        thread = self.threads[number]
+        self.changed = Change(number, thread.priority, priority, thread.ready)
+        thread.priority = priority
+        if self.changed.move is not None:
+            self.move(number, self.changed.move)
+
+    def move(self, number, move):
+        """Within the line: to its head if it was lowered, otherwise to its tail."""
+        self.line.remove(number)
+        self.line.insert(0 if move == LOWERED else len(self.line), number)
+        self.threads[number].moved = move
+        self.moved = number, move
+
+    def join(self, number):
+        thread = self.threads[number]
+        thread.ready, thread.moved = True, None
+        thread.refill()
+        self.line.append(number)
 
     def leave(self, thread):
         self.threads[thread].ready = False

@@ -2,16 +2,20 @@
 
 A process for each job, with a track for each of its threads and counters for what it used of the window and what remains; one more process for the
 day itself, with the tick periods, idle time, resumes and refusals. A microsecond of the trace is a cycle of the day. A slice is here a piece of a
-track, as the format has it; the slice of a round-robin thread is called a time slice, and its end is an instant on the thread's track.
+track, as the format has it; the slice of a round-robin thread is called a time slice. Its end is an instant on the thread's track, and so is a new
+priority that moves the thread in the line.
 """
 import json
 
 from lib import records
 from lib.lanes import ELSEWHERE, READY, RUNNING
 from lib.listing import meaning
+from lib.scheduler import ENDED, LOWERED, RAISED
 
 # what a slice of a thread's track is called; where there is none the thread is blocked, or does not exist
 SLICES = {RUNNING: "running", READY: "waiting", ELSEWHERE: "ready, on other cores alone"}
+# and what an instant on it is called
+MOVES = {ENDED: "time slice ended", RAISED: "raised, to the tail of the line", LOWERED: "lowered, to the head of the line"}
 PERIODS, IDLE = 1, 2
 
 
@@ -70,8 +74,8 @@ def events(sheet, lanes, day, names):
     for thread, lane in sorted(lanes.threads.items()):
         yield from named_track(process(thread[0]), track(*thread), lanes.title(thread))
         yield from slices(lane, lanes.end, process(thread[0]), track(*thread), SLICES)
-    for time, thread in lanes.ends:
-        yield {"ph": "i", "s": "t", "name": "time slice ended", "pid": process(thread[0]), "tid": track(*thread), "ts": time}
+    for time, thread, move in lanes.moves:
+        yield {"ph": "i", "s": "t", "name": MOVES[move], "pid": process(thread[0]), "tid": track(*thread), "ts": time}
     whole = process(len(names))
     yield from named(whole, "the day")
     yield from named_track(whole, PERIODS, "tick periods")

@@ -1,6 +1,7 @@
 """Why this one? The decision after an event, as it was made."""
 from lib.listing import meaning
-from lib.scheduler import AT_LIMIT, FREE_TIME, IDLE, MODES, NAMES, SLICE, UNDERLOAD, by_budget, by_priority, criteria, mode_of, settled, winner
+from lib.scheduler import (AT_LIMIT, FREE_TIME, IDLE, LOWERED, MODES, NAMES, RAISED, SLICE, UNDERLOAD, by_budget, by_priority, criteria, mode_of,
+                           settled, winner)
 from lib.text import columns, count, percent
 
 HEADS = ("job", "competing", "top priority", "used", "budget", "remaining", "has budget", "fraction used")
@@ -55,10 +56,32 @@ def slices(step):
         yield f"thread {scheduler.running} is round robin: {left}"
 
 
+def place(step):
+    """What the last accepted event did to a thread's place in the line, if it set a priority."""
+    change = step.scheduler.changed
+    if change is None:
+        return
+    event = "this event" if step.accepted else "the last accepted event"
+    if not change.ready:
+        yield f"{event} set thread {change.thread} from priority {change.before} to {change.after}: it is not ready, and has no place in the line"
+    elif change.move is None:
+        yield f"{event} set thread {change.thread} to the priority that it had, {change.after}: it kept its place in the line"
+    else:
+        did, end = ("raised", "tail") if change.move == RAISED else ("lowered", "head")
+        kept = ", and kept what is left of its slice" if step.scheduler.threads[change.thread].round_robin else ""
+        yield f"{event} {did} thread {change.thread} from priority {change.before} to {change.after}: it went to the {end} of the line{kept}"
+
+
 def line(scheduler):
-    """The line, and where its order comes from."""
-    turns = any(scheduler.threads[t].round_robin for t in scheduler.line)
-    order = "in order of becoming ready, or of the end of a slice" if turns else "in order of becoming ready"
+    """The line, and where its order comes from. Those that were lowered stand in front, the last one first, because all others go to the tail."""
+    threads = [scheduler.threads[t] for t in scheduler.line]
+    order = "in order of becoming ready"
+    if any(thread.round_robin for thread in threads):
+        order += ", or of the end of a slice"
+    if any(thread.moved == RAISED for thread in threads):
+        order += ", or of being raised"
+    if lowered := [number for number, thread in zip(scheduler.line, threads) if thread.moved == LOWERED]:
+        order += f", with those in front that were lowered ({', '.join(map(str, lowered))})"
     return f"the line, {order}: {', '.join(map(str, scheduler.line))}"
 
 
@@ -86,4 +109,5 @@ def text(step, day, names):
         yield f"{names[best.partition]} is the only one that competes"
     yield choice(scheduler, best)
     yield from slices(step)
+    yield from place(step)
     yield line(scheduler)
