@@ -29,12 +29,12 @@ pub struct Moves {
     /// Of these: in the place that the thread had before, the decision would be
     /// another. A priority that is kept has no such.
     otherwise: [u64; 3],
-    /// Slices that ended, and an equal waited: of a thread whose priority, in
-    /// this slice, was such a one; and with such a one's slice next, by its
-    /// place.
+    /// Slices that ended while an equal waited, by what the thread's priority
+    /// was set to in the slice; and by what that of the equal that stands next
+    /// was set to.
     ended: [u64; 3],
     next: [u64; 3],
-    /// Who has had a new priority since it joined the line or since its slice
+    /// Who has had such a priority since it joined the line or its last slice
     /// ended, in the case that is being counted.
     since: [u64; 3],
 }
