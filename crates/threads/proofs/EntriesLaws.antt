@@ -1,7 +1,8 @@
 -- Laws of the ready queue by itself.
-use mathlib.Core.Path.{_≡_, sym, ap, _∙_}
-use mathlib.Core.Bool.{true, false, not}
-use mathlib.Core.List.{List, [], _∷_, _++_, append-assoc}
+use mathlib.Core.Logic.{_≢_}
+use mathlib.Core.Path.{_≡_, refl, sym, ap, _∙_}
+use mathlib.Core.Bool.{true, false, not, or-false}
+use mathlib.Core.List.{List, [], _∷_, _++_, append-assoc, append-nil}
 use Prim.Native.Nat.{ℕ, zero, suc, _+_, _-_, _<_, _≤_}
 use native.Mathlib.Numerals.{add-one}
 use native.Mathlib.Omega.{arith}
@@ -10,10 +11,11 @@ use native.Mathlib.Nat.{not-suc-le-zero}
 use lib.Dec.{eqb}
 use borrow.Author.Tests.{eq-eqb, ne-eqb, eqb-false, not-true}
 use lib.ListN.{length, getD, take, drop, set, replicate, length-append, length-take, length-drop, length-replicate, take-append-drop, List·getD-append}
-use lib.Seq.{length-take-le, take-suc, take-all, drop-cons, append-snoc, set-at, take-at, drop-at, take-append-seam, getD-append-add, getD-drop, take-append-le, drop-append-le, take-take, getD-take}
+use lib.Seq.{length-take-le, take-suc, take-all, drop-length, drop-cons, append-snoc, set-at, take-at, drop-at, take-append-seam, getD-append-add, getD-drop, take-append-le, drop-append-le, take-take, getD-take}
 use Rattle.lists.specs.Lists.{any, member, keep, distinct}
 use Rattle.lists.proofs.Tests.{both, neither, clash}
 use Rattle.lists.proofs.All.{without-none}
+use Rattle.lists.proofs.Loops.{any-take, member-here}
 use Rattle.lists.proofs.Tables.{zeros-after}
 use Rattle.model.specs.Step.{leaves, toTail, toHead}
 use Rattle.model.specs.Facts.{Stored}
@@ -169,6 +171,23 @@ module _ (l : List ℕ) (at : ℕ) (h : at < length l) where
 
 -- ---- leaving
 
+-- in a list without repeats, a place that holds t is the first one
+first-here : (l : List ℕ) (t i : ℕ) → distinct l ≡ true → i < length l → t ≡ getD l i 0 → member t (take i l) ≡ false
+unfolding distinct any
+first-here [] t i d h e = absurd (not-suc-le-zero h)
+first-here (x ∷ l) t zero d h e = refl
+first-here (x ∷ l) t (suc i) d h e =
+    let parts : (not (member x l) ≡ true) × (distinct l ≡ true) = both (not (member x l)) (distinct l) d in
+    let mine : member t l ≡ true = rw (take-all (length l) l (omega arith)) at (member-here l t i (length l) (omega arith) (omega arith) e) in
+    let other : eqb t x ≡ false = ne-eqb t x (λ q. clash mine (rw q (not-true (member x l) (parts .0)))) in
+    rw other (first-here l t i (parts .1) (omega arith) e)
+
+pub first-at : (es : List ℕ) (n t i : ℕ) → n ≤ length es → distinct (take n es) ≡ true → i < n → t ≡ getD es i 0 → FirstAt (take n es) t i
+first-at es n t i few once h e =
+    let c : length (take n es) ≡ n = length-take-le n es few in
+    let there : t ≡ getD (take n es) i 0 = e ∙ sym (getD-take n es i 0 h) in
+    record { inside = omega (arith, c); none-before = first-here (take n es) t i once (omega (arith, c)) there; here = λ z. there }
+
 -- a list without repeats, without what stands at a place
 leaves-at : (l : List ℕ) (t i : ℕ) → distinct l ≡ true → member t (take i l) ≡ false → i < length l → t ≡ getD l i 0 → leaves l t ≡ take i l ++ drop (suc i) l
 unfolding leaves keep distinct any
@@ -238,6 +257,18 @@ module _ (es : List ℕ) (n t i : ℕ) (s : QueueStored es n) (f : FirstAt (take
       ∙ appended (removed es n i) (n - 1) (stored-of (removed es n i) (n - 1) (leaves (take n es) t) left) t (omega arith)
       ∙ ap (λ (l : List ℕ). queueFrom (l ++ (t ∷ []))) (first-of (removed es n i) (n - 1) (leaves (take n es) t) left)
 
+  -- at the tail already
+  pub last-stays : i + 1 ≡ n → distinct (take n es) ≡ true → queueIn es n ≡ queueFrom (toTail (take n es) t)
+  last-stays e once =
+      let l = take n es in
+      let c : length l ≡ n = counted es n s in
+      let inside : i < length l = omega (arith, c) in
+      let none : drop (i + 1) l ≡ [] = ap (λ (m : ℕ). drop m l) (e ∙ sym c) ∙ drop-length l in
+      let before : leaves l t ≡ take i l = left (omega arith) once ∙ ap (λ x. take i l ++ x) none ∙ append-nil (take i l) in
+      let all : take (suc i) l ≡ l = take-all (suc i) l (omega (arith, c)) in
+      let same : toTail l t ≡ l = ap (λ x. x ++ (t ∷ [])) before ∙ ap (λ x. take i l ++ (x ∷ [])) (f .here inside) ∙ sym (take-suc l i 0 inside) ∙ all in
+      s ∙ ap queueFrom (sym same)
+
   -- left out, and put at the head
   pub put-first : i < n → distinct (take n es) ≡ true → queueIn (t ∷ without es i) n ≡ queueFrom (toHead (take n es) t)
   unfolding queueFrom
@@ -246,6 +277,16 @@ module _ (es : List ℕ) (n t i : ℕ) (s : QueueStored es n) (f : FirstAt (take
       rw (left h once) (queue-eq (ap (λ x. t ∷ x) (apart h) ∙ rw w) (sym w))
 
 -- ---- finding
+
+-- one of the first n: there is a first one; and if it is not the last of them, it is one of those before
+pub some-first : (l : List ℕ) (t n : ℕ) → member t (take n l) ≡ true → 0 < n
+unfolding any
+some-first l t zero m = clash m refl
+some-first l t (suc n) m = omega arith
+
+pub member-before : (l : List ℕ) (t i : ℕ) → i < length l → member t (take (i + 1) l) ≡ true → getD l i 0 ≢ t → member t (take i l) ≡ true
+member-before l t i h m n =
+    sym (any-take (eqb t) l i h ∙ rw (ne-eqb t (getD l i 0) (λ e. n (sym e))) (or-false (member t (take i l)))) ∙ m
 
 pub found : (l : List ℕ) (n t i : ℕ) → n ≤ length l → i < n → member t (take i l) ≡ false → t ≡ getD l i 0 → FirstAt (take n l) t i
 found l n t i h k m e =

@@ -4,7 +4,7 @@ ghost use mathlib.Core.Path.{_≡_};
 ghost use mathlib.Core.Bool.{true};
 ghost use mathlib.Core.List.{_++_, _∷_, []};
 ghost use Prim.Native.Nat.{_<_, _≤_};
-ghost use lib.ListN.{length, take};
+ghost use lib.ListN.{length, getD, take};
 ghost use Rattle.lists.specs.Lists.{member, distinct};
 ghost use Rattle.model.specs.Step.{leaves, toTail, toHead};
 ghost use Rattle.threads.specs.Entries.{QueueStored, queueIn, queueFrom, FirstAt, without, removed};
@@ -32,6 +32,19 @@ fn find(entries: &[u8; 64], n: usize, t: u8) -> usize
         i += 1;
     }
     n
+}
+
+// The place of thread t, one of the first n entries, looked for from the last one on: there stands a thread that was raised, or became ready, not
+// long ago.
+fn find_last(entries: &[u8; 64], n: usize, t: u8) -> usize
+    requires { ⌜ (n ≤ 64) × (length (now entries) ≡ 64) × (member t (take n (now entries)) ≡ true) ⌝ }
+    ensures { λ r. ⌜ (r < n) × (t ≡ getD (now (entries .entry)) r 0) ⌝ }
+{
+    let mut i = n - 1;
+    while entries[i] != t {
+        i -= 1;
+    }
+    i
 }
 
 // Of the first n entries the one at a place is taken out: those behind it move up.
@@ -63,7 +76,7 @@ pub fn leave(entries: &mut [u8; 64], queued: u32, t: u8) -> u32
     queued - 1
 }
 
-// Thread t, one of the entries, goes to the tail: those behind it move up, and as many are queued as before.
+// Thread t, one of the entries, goes to the tail, unless it stands there: those behind it move up, and as many are queued as before.
 pub fn to_tail(entries: &mut [u8; 64], queued: u32, t: u8)
     requires { ⌜
         QueueStored (now entries) queued × (queued ≤ 64) × (distinct (take queued (now entries)) ≡ true)
@@ -72,9 +85,13 @@ pub fn to_tail(entries: &mut [u8; 64], queued: u32, t: u8)
     ensures { λ _. ⌜ queueIn (now (entries .exit)) queued ≡ queueFrom (toTail (take queued (now (entries .entry))) t) ⌝ }
 {
     let n = queued as usize;
+    let last = n - 1;
+    if entries[last] == t {
+        return;
+    }
     let at = find(entries, n, t);
     remove(entries, n, at);
-    entries[n - 1] = t;
+    entries[last] = t;
 }
 
 // The first `at` entries move one place on, over the one that stood behind them, and thread t is put at the head. No other entry moves.
@@ -101,6 +118,6 @@ pub fn to_head(entries: &mut [u8; 64], queued: u32, t: u8)
     ensures { λ _. ⌜ queueIn (now (entries .exit)) queued ≡ queueFrom (toHead (take queued (now (entries .entry))) t) ⌝ }
 {
     let n = queued as usize;
-    let at = find(entries, n, t);
+    let at = find_last(entries, n, t);
     put_first(entries, at, t);
 }
