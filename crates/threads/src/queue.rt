@@ -1,10 +1,10 @@
 // The ready queue by itself, the paper's line, in a lent array: an entry is added at the tail, taken out from any place, or moved from there to
 // the tail or to the head. The places after the last stay zero.
 ghost use mathlib.Core.Path.{_≡_};
-ghost use mathlib.Core.Bool.{true};
+ghost use mathlib.Core.Bool.{true, false};
 ghost use mathlib.Core.List.{_++_, _∷_, []};
-ghost use Prim.Native.Nat.{_<_, _≤_};
-ghost use lib.ListN.{length, getD, take};
+ghost use Prim.Native.Nat.{_+_, _<_, _≤_};
+ghost use lib.ListN.{length, getD, take, drop};
 ghost use Rattle.lists.specs.Lists.{member, distinct};
 ghost use Rattle.model.specs.Step.{leaves, toTail, toHead};
 ghost use Rattle.threads.specs.Entries.{QueueStored, queueIn, queueFrom, FirstAt, without, removed};
@@ -19,12 +19,42 @@ pub fn append(entries: &mut [u8; 64], queued: u32, t: u8) -> u32
     queued + 1
 }
 
+// Thread t is one of the sixteen entries from a place on; processors that can compare them all at once do.
+fn holds(entries: &[u8; 64], from: usize, t: u8) -> bool
+    requires { ⌜ (from + 16 ≤ 64) × (length (now entries) ≡ 64) ⌝ }
+    ensures { λ r. ⌜ r ≡ member t (take 16 (drop from (now (entries .entry)))) ⌝ }
+{
+    let mut any = false;
+    let mut i: usize = 0;
+    while i < 16 {
+        let here = t == entries[from + i];
+        any = any | here;
+        i += 1;
+    }
+    any
+}
+
+// How many of the first n entries can be passed over, sixteen at a time: thread t is none of them.
+fn skip(entries: &[u8; 64], n: usize, t: u8) -> usize
+    requires { ⌜ (n ≤ 64) × (length (now entries) ≡ 64) ⌝ }
+    ensures { λ r. ⌜ (r ≤ n) × (member t (take r (now (entries .entry))) ≡ false) ⌝ }
+{
+    let mut i: usize = 0;
+    while i + 16 <= n {
+        if holds(entries, i, t) {
+            return i;
+        }
+        i += 16;
+    }
+    i
+}
+
 // The first place of thread t among the first n entries, or n where it is none of them.
 fn find(entries: &[u8; 64], n: usize, t: u8) -> usize
     requires { ⌜ (n ≤ 64) × (length (now entries) ≡ 64) ⌝ }
     ensures { λ r. ⌜ FirstAt (take n (now (entries .entry))) t r ⌝ }
 {
-    let mut i: usize = 0;
+    let mut i = skip(entries, n, t);
     while i < n {
         if t == entries[i] {
             return i;

@@ -1,11 +1,11 @@
-use mathlib.Core.Path.{_≡_, refl, sym, ap, _∙_}
+use mathlib.Core.Path.{_≡_, sym, ap, _∙_}
 use mathlib.Core.Bool.{false}
 use Prim.Native.Nat.{ℕ, _≤_, _<_, _-_}
 use native.Mathlib.Omega.{arith}
 use borrow.Author.Needs.{needs}
 use denote.Ref.{now}
 use lib.ListN.{length, take}
-use Rattle.lists.specs.Lists.{any, member}
+use Rattle.lists.specs.Lists.{member}
 use Rattle.lists.proofs.Loops.{member-next}
 use Rattle.threads.proofs.EntriesLaws.{found, found-none}
 use Rattle.threads.proofs.queue.find.Statement.{statement}
@@ -20,16 +20,18 @@ abbrev μ-loop : tie.MeasureT-loop
 full : (c : tie.Start Inv-loop μ-loop) → length (now (c .args .entries)) ≡ 64
 full c = c .pre .1
 
+skip-requires : tie.Need-skip-requires Inv-loop μ-loop
+skip-requires c κs = c .pre
+
 loop-holds : tie.Need-loop-holds Inv-loop μ-loop
-unfolding any
-loop-holds c = (omega arith, refl)
+loop-holds c = c .skip .ensures
 
 element-copy-out-if1 : tie.Need-element-copy-out-if1 Inv-loop μ-loop
 element-copy-out-if1 c = search needs
 
 returns : tie.Need-returns Inv-loop μ-loop
 returns c =
-    let start = c .before .before .before .before in
+    let start = c .before .before .before .before .before in
     let turn = c .before .before .before .loop in
     found (now (start .args .entries)) (start .args .n) (start .args .t) (turn .i) (omega (arith, full start)) (omega arith) (turn .inv .1) (c .if1 .taken)
 
@@ -41,14 +43,14 @@ loop-less c = search needs
 
 loop-again : tie.Need-loop-again Inv-loop μ-loop
 loop-again c =
-    let start = c .before .before .before .before in
+    let start = c .before .before .before .before .before in
     let turn = c .before .before .before .loop in
     let within : turn .i < length (now (start .args .entries)) = omega (arith, full start) in
     (omega arith, member-next (now (start .args .entries)) (start .args .t) (turn .i) within (turn .inv .1) (c .if1 .left))
 
 returns-2 : tie.Need-returns-2 Inv-loop μ-loop
 returns-2 c =
-    let start = c .before .before in
+    let start = c .before .before .before in
     let turn = c .before .loop in
     let e : turn .i ≡ start .args .n = omega arith in
     found-none (now (start .args .entries)) (start .args .n) (start .args .t) (omega (arith, full start)) (ap (λ (k : ℕ). member (start .args .t) (take k (now (start .args .entries)))) (sym e) ∙ turn .inv .1)
@@ -59,6 +61,7 @@ find-spec =
     (tie.spec
     Inv-loop
     μ-loop
+    skip-requires
     loop-holds
     element-copy-out-if1
     returns
