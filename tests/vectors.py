@@ -3,9 +3,7 @@
 
 tests/vectors/NAME has a sheet (shares.txt), events (events.bin) and the lines that a scheduler which shares nothing with the model printed
 for them (expected.txt). slices-NNN are runs of it with request (i) of document 02, priorities-NNN with (i) and (ii); in tells-.. a wrong reading of
-one of them, which the name tells, prints something else (tells-lowered-to-the-head has the rule's own name). 002 and slices-050 are from before
-request (ii), which changes seven and three of their lines: those ten lines, from a set priority to the priority of others on, are not that
-scheduler's, but what two others give, the second scheduler and one that was written for this alone.
+one of them, which the name tells, prints something else (tells-lowered-to-the-head has the rule's own name).
 
 For each run this writes a theorem, that the definitions give just these lines, into a crate of its own in a temporary
 copy of the repository, and has the checker prove that crate. The theorem tests the state before each event, as the doors do; its proof tests
