@@ -1,76 +1,194 @@
--- The orders of partitions are strict weak orders: has budget, then top priority where the mode has it, then the fraction used.
+-- The orders of partitions are orders with ties: has budget, then top priority where the mode has it, then the fraction used.
 use mathlib.Core.Logic.{_≢_}
 use mathlib.Core.Path.{_≡_, refl, sym, _∙_}
 use Prim.Native.Nat.{ℕ, _*_, _≤_, _<_}
-use mathlib.Core.Bool.{Bool, true, false, not, cond, _&&_, _||_}
+use mathlib.Core.Bool.{Bool, true, false, cond, _&&_}
 use lib.Dec.{eqb, ltb}
-use borrow.Author.Tests.{eqb-true, eqb-false, eq-eqb, ne-eqb, ltb-true, ltb-false, le-ltb}
+use borrow.Author.Tests.{eqb-true, eqb-false, ne-eqb, ltb-true, lt-ltb, le-ltb}
 use native.Mathlib.Omega.{arith}
+use native.Mathlib.Decide.{decLe}
 use native.Mathlib.Nat.{mul-le-mul-right, le-of-mul-le-mul-right}
-use Rattle.lists.proofs.Tests.{clash, neither, both}
+use Rattle.lists.proofs.Tests.{clash}
 use Rattle.sheet.specs.Settings.{budget}
-use Rattle.units.specs.Units.{smallerFraction}
+use Rattle.units.specs.Units.{compareNumbers, compareFlags, compareFractions}
+use Rattle.units.specs.declared.Comparison.{Comparison}
+use Rattle.units.specs.declared.Comparison.the-variants.{Better, Worse, Equal}
 use Rattle.model.specs.State.{used, State}
-use Rattle.model.specs.Policy.{hasBudget, topPriority, betterFraction, byBudget, byPriority, ratioPolicy, before, atLimit, freeTime}
-use Rattle.model.specs.Choices.{StrictWeak}
+use Rattle.model.specs.Policy.{hasBudget, topPriority, byBudget, byPriority, byFraction, _then_, ratioPolicy, compare, atLimit, freeTime}
+use Rattle.model.specs.Choices.{reversed, Ordered, isBetter, before, StrictWeak}
 
--- ---- first by a number, the larger being the better
+-- two of the three answers at once
+pub apart : {A : Type 0} → Better ≡ Worse → A
+apart e = let z : _≡_ {A = ℕ} 0 1 = cc in let w : ⊥ = omega arith in absurd w
 
-lex-true : (a b : ℕ) (r : Bool) → (ltb a b || (eqb a b && r)) ≡ true → (a ≤ b) × (a ≡ b → r ≡ true)
-lex-true a b r e = go (ltb a b) refl (eqb a b) refl e
+pub not-better : {A : Type 0} → Better ≡ Equal → A
+not-better e = let z : _≡_ {A = ℕ} 0 1 = cc in let w : ⊥ = omega arith in absurd w
+
+pub not-worse : {A : Type 0} → Worse ≡ Equal → A
+not-worse e = let z : _≡_ {A = ℕ} 0 1 = cc in let w : ⊥ = omega arith in absurd w
+
+-- ---- what holds in every such order
+
+module _ (R : ℕ → ℕ → Comparison) (o : Ordered R) where
+  pub itself : (p : ℕ) → R p p ≡ Equal
+  itself p = go (R p p) refl
+    where
+      go : (c : Comparison) → R p p ≡ c → R p p ≡ Equal
+      go Better e = apart (sym e ∙ o .mirrored p p ∙ rw e)
+      go Worse e = apart (sym (sym e ∙ o .mirrored p p ∙ rw e))
+      go Equal e = e
+
+  -- reversed round
+  pub reversed-better : (p q : ℕ) → R p q ≡ Better → R q p ≡ Worse
+  reversed-better p q e = o .mirrored p q ∙ rw e
+
+  pub reversed-worse : (p q : ℕ) → R p q ≡ Worse → R q p ≡ Better
+  reversed-worse p q e = o .mirrored p q ∙ rw e
+
+  pub reversed-equal : (p q : ℕ) → R p q ≡ Equal → R q p ≡ Equal
+  reversed-equal p q e = o .mirrored p q ∙ rw e
+
+  -- not better is not worse the other way
+  pub other-way : (p q : ℕ) → R p q ≢ Better → R q p ≢ Worse
+  other-way p q n e = n (reversed-worse q p e)
+
+  -- better than one that is not worse than a third is better than the third, and the same the other way about
+  pub better-than : (p q r : ℕ) → R p q ≡ Better → R q r ≢ Worse → R p r ≡ Better
+  better-than p q r b n = go (R p r) refl
+    where
+      go : (c : Comparison) → R p r ≡ c → R p r ≡ Better
+      go Better e = e
+      go Worse e = absurd (o .transitive p q r (λ f. apart (sym b ∙ f)) n e)
+      go Equal e = absurd (o .transitive q r p n (λ f. not-worse (sym f ∙ reversed-equal p r e)) (reversed-better p q b))
+
+  pub than-better : (p q r : ℕ) → R p q ≢ Worse → R q r ≡ Better → R p r ≡ Better
+  than-better p q r n b = go (R p r) refl
+    where
+      go : (c : Comparison) → R p r ≡ c → R p r ≡ Better
+      go Better e = e
+      go Worse e = absurd (o .transitive p q r n (λ f. apart (sym b ∙ f)) e)
+      go Equal e = absurd (o .transitive r p q (λ f. not-worse (sym f ∙ reversed-equal p r e)) n (reversed-better q r b))
+
+  pub equal-chain : (p q r : ℕ) → R p q ≡ Equal → R q r ≡ Equal → R p r ≡ Equal
+  equal-chain p q r e f = go (R p r) refl
+    where
+      go : (c : Comparison) → R p r ≡ c → R p r ≡ Equal
+      go Better g =
+          absurd (o .transitive r q p (λ h. not-worse (sym h ∙ reversed-equal q r f)) (λ h. not-worse (sym h ∙ reversed-equal p q e)) (reversed-better p r g))
+      go Worse g = absurd (o .transitive p q r (λ h. not-worse (sym h ∙ e)) (λ h. not-worse (sym h ∙ f)) g)
+      go Equal g = g
+
+  -- so to be better is a strict weak order
+  pub strict-weak : StrictWeak (λ p q. isBetter (R p q))
+  strict-weak = record {
+    asymmetric = λ p q e. is-not (R q p) (λ f. apart (sym f ∙ reversed-better p q (is (R p q) e)));
+    negatively-transitive =
+        λ p q r e f. is-not (R p r) (λ g. o .transitive r q p (other-way q r (isnt (R q r) f)) (other-way p q (isnt (R p q) e)) (reversed-better p r g));
+  }
+    where
+      is : (c : Comparison) → isBetter c ≡ true → c ≡ Better
+      is Better e = refl
+      is Worse e = clash e refl
+      is Equal e = clash e refl
+
+      isnt : (c : Comparison) → isBetter c ≡ false → c ≢ Better
+      isnt Better e f = clash refl e
+      isnt Worse e f = apart (sym f)
+      isnt Equal e f = not-better (sym f)
+
+      is-not : (c : Comparison) → c ≢ Better → isBetter c ≡ false
+      is-not Better n = absurd (n refl)
+      is-not Worse n = refl
+      is-not Equal n = refl
+
+-- ---- one comparison after another
+
+reversed-then : (c d : Comparison) → (reversed c then reversed d) ≡ reversed (c then d)
+unfolding _then_
+reversed-then Better d = refl
+reversed-then Worse d = refl
+reversed-then Equal d = refl
+
+by-both : (R S : ℕ → ℕ → Comparison) → Ordered R → Ordered S → Ordered (λ p q. R p q then S p q)
+unfolding _then_
+by-both R S a b = record {
+  mirrored = λ p q. rw (a .mirrored p q, b .mirrored p q) (reversed-then (R p q) (S p q));
+  transitive = λ p q r. go p q r (R p q) refl (R q r) refl;
+}
   where
-    go : (y : Bool) → ltb a b ≡ y → (z : Bool) → eqb a b ≡ z → (y || (z && r)) ≡ true → (a ≤ b) × (a ≡ b → r ≡ true)
-    go true p z q f = let h : a < b = ltb-true a b p in (omega arith, λ w. let x : ⊥ = omega arith in absurd x)
-    go false p true q f = let w : a ≡ b = eqb-true a b q in (omega arith, λ v. f)
-    go false p false q f = clash {b = false} f refl
+    go : (p q r : ℕ) (c : Comparison) → R p q ≡ c → (d : Comparison) → R q r ≡ d → (c then S p q) ≢ Worse → (d then S q r) ≢ Worse
+        → (R p r then S p r) ≢ Worse
+    go p q r Better e d f m n = rw (better-than R a p q r e (λ g. n (rw (sym f ∙ g)))) apart
+    go p q r Worse e d f m n = absurd (m refl)
+    go p q r Equal e Better f m n = rw (than-better R a p q r (λ g. not-worse (sym g ∙ e)) f) apart
+    go p q r Equal e Worse f m n = absurd (n refl)
+    go p q r Equal e Equal f m n = rw (equal-chain R a p q r e f) (b .transitive p q r m n)
 
-lex-false : (a b : ℕ) (r : Bool) → (ltb a b || (eqb a b && r)) ≡ false → (b ≤ a) × (a ≡ b → r ≡ false)
-lex-false a b r e =
-    let (x, y) = neither (ltb a b) (eqb a b && r) e in
-    (ltb-false a b x, λ w. rw (eq-eqb a b w) at y)
+-- ---- by a number, the larger being the better
 
-false-lex : (a b : ℕ) (r : Bool) → b ≤ a → (a ≡ b → r ≡ false) → (ltb a b || (eqb a b && r)) ≡ false
-false-lex a b r h f = rw (le-ltb a b h) (go (eqb a b) refl)
+numbers-reversed : (a b : ℕ) → compareNumbers b a ≡ reversed (compareNumbers a b)
+unfolding compareNumbers
+numbers-reversed a b = go (ltb a b) refl (ltb b a) refl
   where
-    go : (z : Bool) → eqb a b ≡ z → (z && r) ≡ false
-    go true q = f (eqb-true a b q)
-    go false q = refl
+    go : (x : Bool) → ltb a b ≡ x → (y : Bool) → ltb b a ≡ y → cond x Better (cond y Worse Equal) ≡ reversed (cond y Better (cond x Worse Equal))
+    go true e true f = let h : a < b = ltb-true a b e in let k : b < a = ltb-true b a f in let z : ⊥ = omega arith in absurd z
+    go true e false f = refl
+    go false e true f = refl
+    go false e false f = refl
 
-abbrev byKey : (ℕ → ℕ) → (ℕ → ℕ → Bool) → ℕ → ℕ → Bool
-byKey key R p q = ltb (key q) (key p) || (eqb (key q) (key p) && R p q)
+numbers-le : (a b : ℕ) → compareNumbers a b ≢ Worse → b ≤ a
+unfolding compareNumbers
+numbers-le a b n = go (decLe b a)
+  where
+    go : Dec (b ≤ a) → b ≤ a
+    go (yes h) = h
+    go (no h) = absurd (n (rw (le-ltb b a (omega arith), lt-ltb a b (omega arith))))
 
-by-key : (key : ℕ → ℕ) (R : ℕ → ℕ → Bool) → StrictWeak R → StrictWeak (byKey key R)
-by-key key R w = record {
-  asymmetric = λ p q e.
-      let (le, tie) = lex-true (key q) (key p) (R p q) e in
-      false-lex (key p) (key q) (R q p) le (λ v. w .asymmetric p q (tie (sym v)));
-  negatively-transitive = λ p q r e f.
-      let (a, x) = lex-false (key q) (key p) (R p q) e in
-      let (b, y) = lex-false (key r) (key q) (R q r) f in
-      false-lex (key r) (key p) (R p r) (omega arith) (λ v. w .negatively-transitive p q r (x (omega arith)) (y (omega arith)));
+le-numbers : (a b : ℕ) → b ≤ a → compareNumbers a b ≢ Worse
+unfolding compareNumbers
+le-numbers a b h e = go (ltb b a) refl (rw (le-ltb a b h) at e)
+  where
+    go : (z : Bool) → ltb b a ≡ z → cond z Better Equal ≡ Worse → ⊥
+    go true q f = apart f
+    go false q f = not-worse (sym f)
+
+by-key : (key : ℕ → ℕ) → Ordered (λ p q. compareNumbers (key p) (key q))
+by-key key = record {
+  mirrored = λ p q. numbers-reversed (key p) (key q);
+  transitive = λ p q r m n. le-numbers (key p) (key r) (omega (arith, numbers-le (key p) (key q) m, numbers-le (key q) (key r) n));
 }
 
 -- ---- the fraction
 
-frac-true : (u₁ b₁ u₂ b₂ : ℕ) → smallerFraction u₁ b₁ u₂ b₂ ≡ true → (b₁ ≢ 0) × (b₂ ≢ 0 → u₁ * b₂ < u₂ * b₁)
-unfolding smallerFraction
-frac-true u₁ b₁ u₂ b₂ e =
-    let (x, y) = both (not (eqb b₁ 0)) (eqb b₂ 0 || ltb (u₁ * b₂) (u₂ * b₁)) e in
-    (λ w. clash x (rw w), λ n. ltb-true (u₁ * b₂) (u₂ * b₁) (rw (ne-eqb b₂ 0 n) at y))
-
-frac-false : (u₁ b₁ u₂ b₂ : ℕ) → smallerFraction u₁ b₁ u₂ b₂ ≡ false → b₁ ≢ 0 → (b₂ ≢ 0) × (u₂ * b₁ ≤ u₁ * b₂)
-unfolding smallerFraction
-frac-false u₁ b₁ u₂ b₂ e n =
-    let (x, y) = neither (eqb b₂ 0) (ltb (u₁ * b₂) (u₂ * b₁)) (rw (ne-eqb b₁ 0 n) at e) in
-    (eqb-false b₂ 0 x, ltb-false (u₁ * b₂) (u₂ * b₁) y)
-
-false-frac : (u₁ b₁ u₂ b₂ : ℕ) → (b₁ ≢ 0 → (b₂ ≢ 0) × (u₂ * b₁ ≤ u₁ * b₂)) → smallerFraction u₁ b₁ u₂ b₂ ≡ false
-unfolding smallerFraction
-false-frac u₁ b₁ u₂ b₂ f = go (eqb b₁ 0) refl
+frac-le : (u₁ b₁ u₂ b₂ : ℕ) → compareFractions u₁ b₁ u₂ b₂ ≢ Worse → b₂ ≢ 0 → (b₁ ≢ 0) × (u₁ * b₂ ≤ u₂ * b₁)
+unfolding compareFractions
+frac-le u₁ b₁ u₂ b₂ n k = go (eqb b₁ 0) refl (rw (ne-eqb b₂ 0 k) at n)
   where
-    go : (z : Bool) → eqb b₁ 0 ≡ z → (not z && (eqb b₂ 0 || ltb (u₁ * b₂) (u₂ * b₁))) ≡ false
-    go true q = refl
-    go false q = let (n, h) = f (eqb-false b₁ 0 q) in rw (ne-eqb b₂ 0 n, le-ltb (u₁ * b₂) (u₂ * b₁) h)
+    go : (z : Bool) → eqb b₁ 0 ≡ z → cond z Worse (compareNumbers (u₂ * b₁) (u₁ * b₂)) ≢ Worse → (b₁ ≢ 0) × (u₁ * b₂ ≤ u₂ * b₁)
+    go true q m = absurd (m refl)
+    go false q m = (eqb-false b₁ 0 q, numbers-le (u₂ * b₁) (u₁ * b₂) m)
+
+le-frac : (u₁ b₁ u₂ b₂ : ℕ) → (b₂ ≢ 0 → (b₁ ≢ 0) × (u₁ * b₂ ≤ u₂ * b₁)) → compareFractions u₁ b₁ u₂ b₂ ≢ Worse
+unfolding compareFractions
+le-frac u₁ b₁ u₂ b₂ f = go (eqb b₂ 0) refl (eqb b₁ 0) refl
+  where
+    go : (y : Bool) → eqb b₂ 0 ≡ y → (z : Bool) → eqb b₁ 0 ≡ z
+        → cond z (cond y Equal Worse) (cond y Better (compareNumbers (u₂ * b₁) (u₁ * b₂))) ≢ Worse
+    go true q true r e = not-worse (sym e)
+    go true q false r e = apart e
+    go false q true r e = absurd (f (eqb-false b₂ 0 q) .0 (eqb-true b₁ 0 r))
+    go false q false r e = le-numbers (u₂ * b₁) (u₁ * b₂) (f (eqb-false b₂ 0 q) .1) e
+
+frac-reversed : (u₁ b₁ u₂ b₂ : ℕ) → compareFractions u₂ b₂ u₁ b₁ ≡ reversed (compareFractions u₁ b₁ u₂ b₂)
+unfolding compareFractions
+frac-reversed u₁ b₁ u₂ b₂ = go (eqb b₁ 0) (eqb b₂ 0)
+  where
+    go : (y z : Bool) → cond z (cond y Equal Worse) (cond y Better (compareNumbers (u₁ * b₂) (u₂ * b₁)))
+        ≡ reversed (cond y (cond z Equal Worse) (cond z Better (compareNumbers (u₂ * b₁) (u₁ * b₂))))
+    go true true = refl
+    go true false = refl
+    go false true = refl
+    go false false = numbers-reversed (u₂ * b₁) (u₁ * b₂)
 
 cross : (u₁ b₁ u₂ b₂ u₃ b₃ : ℕ) → b₂ ≢ 0 → u₂ * b₁ ≤ u₁ * b₂ → u₃ * b₂ ≤ u₂ * b₃ → u₃ * b₁ ≤ u₁ * b₃
 cross u₁ b₁ u₂ b₂ u₃ b₃ n h k =
@@ -79,59 +197,56 @@ cross u₁ b₁ u₂ b₂ u₃ b₃ n h k =
     let z : u₃ * b₁ * b₂ ≤ u₁ * b₃ * b₂ = omega arith in
     le-of-mul-le-mul-right z (omega arith)
 
--- whatever the totals and the budgets are
-pub fraction-weak : (u b : ℕ → ℕ) → StrictWeak (λ p q. smallerFraction (u p) (b p) (u q) (b q))
-fraction-weak u b = record {
-  asymmetric = λ p q e.
-      let (n, lt) = frac-true (u p) (b p) (u q) (b q) e in
-      false-frac (u q) (b q) (u p) (b p) (λ m. (n, omega (arith, lt m)));
-  negatively-transitive = λ p q r e f. false-frac (u p) (b p) (u r) (b r) (λ n.
-      let (m, x) = frac-false (u p) (b p) (u q) (b q) e n in
-      let (l, y) = frac-false (u q) (b q) (u r) (b r) f m in
-      (l, cross (u p) (b p) (u q) (b q) (u r) (b r) m x y));
+-- whatever the totals u and the budgets b are
+pub by-fractions : (u b : ℕ → ℕ) → Ordered (λ p q. compareFractions (u p) (b p) (u q) (b q))
+by-fractions u b = record {
+  mirrored = λ p q. frac-reversed (u p) (b p) (u q) (b q);
+  transitive = λ p q r m n. le-frac (u p) (b p) (u r) (b r) (λ k.
+      let (l, y) = frac-le (u q) (b q) (u r) (b r) n k in
+      let (i, x) = frac-le (u p) (b p) (u q) (b q) m l in
+      (i, cross (u r) (b r) (u q) (b q) (u p) (b p) l y x));
 }
 
-by-fraction : (s : State) → StrictWeak (betterFraction s)
-unfolding betterFraction
-by-fraction s = fraction-weak (λ p. used s p) (λ p. budget (s .settings) p)
+by-fraction : (s : State) → Ordered (byFraction s)
+unfolding byFraction
+by-fraction s = by-fractions (λ p. used s p) (λ p. budget (s .settings) p)
 
 -- ---- all orders
 
-abbrev budgetKey : State → ℕ → ℕ
-budgetKey s p = cond (hasBudget s p) 1 0
+flags : (x y : Bool) → compareFlags x y ≡ compareNumbers (cond x 1 0) (cond y 1 0)
+unfolding compareFlags compareNumbers
+flags true true = refl
+flags true false = refl
+flags false true = refl
+flags false false = refl
 
-budget-key : (s : State) (p q : ℕ) (rest : Bool)
-    → byBudget s p q rest ≡ (ltb (budgetKey s q) (budgetKey s p) || (eqb (budgetKey s q) (budgetKey s p) && rest))
+by-budget : (s : State) → Ordered (byBudget s)
 unfolding byBudget
-budget-key s p q rest = go (hasBudget s p) (hasBudget s q)
-  where
-    go : (x y : Bool) → ((x && not y) || (cond x y (not y) && rest)) ≡ (ltb (cond y 1 0) (cond x 1 0) || (eqb (cond y 1 0) (cond x 1 0) && rest))
-    go true true = refl
-    go true false = refl
-    go false true = refl
-    go false false = refl
-
-by-budget : (s : State) (R : ℕ → ℕ → Bool) → StrictWeak R → StrictWeak (λ p q. byBudget s p q (R p q))
-by-budget s R w = record {
-  asymmetric = λ p q e. budget-key s q p (R q p) ∙ k .asymmetric p q (sym (budget-key s p q (R p q)) ∙ e);
-  negatively-transitive =
-      λ p q r e f. budget-key s p r (R p r)
-      ∙ k .negatively-transitive p q r (sym (budget-key s p q (R p q)) ∙ e) (sym (budget-key s q r (R q r)) ∙ f);
+by-budget s = record {
+  mirrored = λ p q. rw (flags (hasBudget s p) (hasBudget s q), flags (hasBudget s q) (hasBudget s p)) (k .mirrored p q);
+  transitive =
+      λ p q r. rw (flags (hasBudget s p) (hasBudget s q), flags (hasBudget s q) (hasBudget s r), flags (hasBudget s p) (hasBudget s r))
+      (k .transitive p q r);
 }
   where
-    k : StrictWeak (byKey (budgetKey s) R)
-    k = by-key (budgetKey s) R w
+    k : Ordered (λ p q. compareNumbers (cond (hasBudget s p) 1 0) (cond (hasBudget s q) 1 0))
+    k = by-key (λ p. cond (hasBudget s p) 1 0)
 
-by-priority : (s : State) (R : ℕ → ℕ → Bool) → StrictWeak R → StrictWeak (λ p q. byPriority s p q (R p q))
+by-priority : (s : State) → Ordered (byPriority s)
 unfolding byPriority
-by-priority s R w = by-key (topPriority s) R w
+by-priority s = by-key (topPriority s)
 
-pub weak : (s : State) (m : ℕ) → StrictWeak (before s m)
-unfolding before
-weak s m = go (eqb m atLimit) (eqb m freeTime && ratioPolicy s)
+pub ordered : (s : State) (m : ℕ) → Ordered (compare s m)
+unfolding compare
+ordered s m = go (eqb m atLimit) (eqb m freeTime && ratioPolicy s)
   where
     go : (x y : Bool)
-        → StrictWeak (λ p q. cond x (betterFraction s p q) (cond y (byBudget s p q (betterFraction s p q)) (byBudget s p q (byPriority s p q (betterFraction s p q)))))
+        → Ordered (λ p q. cond x (byFraction s p q) (cond y (byBudget s p q then byFraction s p q) (byBudget s p q then byPriority s p q then byFraction s p q)))
     go true y = by-fraction s
-    go false true = by-budget s (betterFraction s) (by-fraction s)
-    go false false = by-budget s (λ p q. byPriority s p q (betterFraction s p q)) (by-priority s (betterFraction s) (by-fraction s))
+    go false true = by-both (byBudget s) (byFraction s) (by-budget s) (by-fraction s)
+    go false false =
+        by-both (byBudget s) (λ p q. byPriority s p q then byFraction s p q) (by-budget s)
+        (by-both (byPriority s) (byFraction s) (by-priority s) (by-fraction s))
+
+pub weak : (s : State) (m : ℕ) → StrictWeak (before s m)
+weak s m = strict-weak (compare s m) (ordered s m)

@@ -8,7 +8,7 @@ use lib.Dec.{leb, ltb, eqb}
 use Rattle.sheet.specs.Sheet.{settingsOf, refusedSheet}
 use Rattle.model.specs.State.{wanted}
 use Rattle.model.specs.Policy.{remaining, decide}
-use Rattle.model.specs.Step.{Saved, Answer, refusedBy, answer}
+use Rattle.model.specs.Step.{Saved, Answer, favoured, refusedBy, answer}
 use Rattle.model.specs.Run.{freshState, run, after}
 use Rattle.model.specs.Answers.{Line, refusalLine, decisionLine, Remainder}
 use Rattle.model.specs.Lent.{Lent, stateIn, savedIn, refusedIn}
@@ -46,10 +46,11 @@ linesAfter x events lines =
     (linesOf (run (savedIn x) (eventsIn events (takenBy events (length lines)))) ++ drop (12 * takenBy events (length lines)) lines)
     lines
 
--- ---- decision: "mode, partition and thread as the rules give them for the state"
+-- ---- decision: "mode, partition and thread as the rules give them for the state". "The decision door takes the state's running thread" for
+-- the one whose partition is favoured
 
 unfoldable pub decision : Lent → Line
-decision x = cond (eqb (refusedIn x) 0) (decisionLine (decide (stateIn x))) (refusalLine (refusedIn x))
+decision x = cond (eqb (refusedIn x) 0) (decisionLine (decide (stateIn x) (favoured (stateIn x)))) (refusalLine (refusedIn x))
 
 -- ---- remaining: "one partition's remaining"
 

@@ -1,12 +1,14 @@
 -- The decision: which thread runs, by the adaptive partitioning rules ("The decision" of document 01).
 use Prim.Native.Nat.{ℕ, suc, zero}
-use mathlib.Core.Bool.{Bool, true, not, cond, _&&_, _||_}
+use mathlib.Core.Bool.{Bool, true, false, not, cond, _&&_}
 use mathlib.Core.List.{List, map}
 use mathlib.Core.Option.{Option, none, some}
 use lib.IntN.{ℤ}
-use lib.Dec.{ltb, eqb}
+use lib.Dec.{eqb}
 use Rattle.lists.specs.Lists.{below, any, keep, first, maximum}
-use Rattle.units.specs.Units.{remainingOf, hasBudgetOf, smallerFraction}
+use Rattle.units.specs.Units.{remainingOf, hasBudgetOf, compareNumbers, compareFlags, compareFractions}
+use Rattle.units.specs.declared.Comparison.{Comparison}
+use Rattle.units.specs.declared.Comparison.the-variants.{Better, Worse, Equal}
 use Rattle.sheet.specs.Settings.{C, budget}
 use Rattle.model.specs.State.{thread, queueOf, mayRun, idle, used, State}
 
@@ -38,10 +40,6 @@ remaining s p = remainingOf (budget (s .settings) p) (used s p)
 unfoldable pub hasBudget : State → ℕ → Bool
 hasBudget s p = hasBudgetOf (remaining s p) (C (s .settings))
 
--- p's fraction used is better than q's
-unfoldable pub betterFraction : State → ℕ → ℕ → Bool
-betterFraction s p q = smallerFraction (used s p) (budget (s .settings) p) (used s q) (budget (s .settings) q)
-
 -- ---- the mode
 
 abbrev pub idleMode : ℕ
@@ -67,41 +65,62 @@ mode s =
     (cond (any (λ p. competing s p && hasBudget s p) (partitions s)) underload
     atLimit))
 
--- ---- the order of partitions
+-- ---- the order of partitions: "The comparison of two partitions shall say better, worse or equal"
 
--- p comes strictly before q on has budget, or they are equal there and the rest of the order says so
-unfoldable pub byBudget : State → ℕ → ℕ → Bool → Bool
-byBudget s p q rest = (hasBudget s p && not (hasBudget s q)) || (cond (hasBudget s p) (hasBudget s q) (not (hasBudget s q)) && rest)
+-- what p is against q on has budget, on top priority, on the fraction used
+unfoldable pub byBudget : State → ℕ → ℕ → Comparison
+byBudget s p q = compareFlags (hasBudget s p) (hasBudget s q)
 
--- the same on top priority
-unfoldable pub byPriority : State → ℕ → ℕ → Bool → Bool
-byPriority s p q rest = ltb (topPriority s q) (topPriority s p) || (eqb (topPriority s q) (topPriority s p) && rest)
+unfoldable pub byPriority : State → ℕ → ℕ → Comparison
+byPriority s p q = compareNumbers (topPriority s p) (topPriority s q)
+
+unfoldable pub byFraction : State → ℕ → ℕ → Comparison
+byFraction s p q = compareFractions (used s p) (budget (s .settings) p) (used s q) (budget (s .settings) q)
+
+-- where the first comparison says equal, the rest decides
+infixr 30 _then_
+unfoldable pub _then_ : Comparison → Comparison → Comparison
+Better then rest = Better
+Worse then rest = Worse
+Equal then rest = rest
 
 -- policy 1, SCHEDPOL_RATIO
 unfoldable pub ratioPolicy : State → Bool
 ratioPolicy s = eqb (s .settings .policy) 1
 
--- the mode table's column "order of partitions": in mode m, p comes strictly before q
-unfoldable pub before : State → ℕ → ℕ → ℕ → Bool
-before s m p q =
-    cond (eqb m atLimit) (betterFraction s p q)
-    (cond (eqb m freeTime && ratioPolicy s) (byBudget s p q (betterFraction s p q))
-    (byBudget s p q (byPriority s p q (betterFraction s p q))))
+-- the mode table's column "order of partitions": in mode m, what p is against q
+unfoldable pub compare : State → ℕ → ℕ → ℕ → Comparison
+compare s m p q =
+    cond (eqb m atLimit) (byFraction s p q)
+    (cond (eqb m freeTime && ratioPolicy s) (byBudget s p q then byFraction s p q)
+    (byBudget s p q then byPriority s p q then byFraction s p q))
 
 -- ---- the winner and its thread
 
--- "Ties go to the lowest number": of p and the best of lower number, p only if it comes strictly before
-unfoldable pub better : State → ℕ → Option ℕ → ℕ
-better s p none = p
-better s p (some b) = cond (before s (mode s) p b) p b
+-- p is the favoured partition, if there is one
+unfoldable pub favours : Option ℕ → ℕ → Bool
+favours none p = false
+favours (some f) p = eqb f p
+
+-- whether one wins against another of lower number, from what it is against that, and whether it is the favoured one: "Among those tied for
+-- best", the favoured one "wins, if it is one of them; otherwise the lowest number"
+unfoldable pub wins : Comparison → Bool → Bool
+wins Better favoured = true
+wins Worse favoured = false
+wins Equal favoured = favoured
+
+-- of p and the best of lower number, where f is favoured
+unfoldable pub better : State → Option ℕ → ℕ → Option ℕ → ℕ
+better s f p none = p
+better s f p (some b) = cond (wins (compare s (mode s) p b) (favours f p)) p b
 
 -- "Only competing partitions are compared": the best of those below n; none where none of them competes
-unfoldable pub best : State → ℕ → Option ℕ
-best s zero = none
-best s (suc p) = cond (competing s p) (some (better s p (best s p))) (best s p)
+unfoldable pub best : State → Option ℕ → ℕ → Option ℕ
+best s f zero = none
+best s f (suc p) = cond (competing s p) (some (better s f p (best s f p))) (best s f p)
 
-unfoldable pub winner : State → Option ℕ
-winner s = best s (s .settings .count)
+unfoldable pub winner : State → Option ℕ → Option ℕ
+winner s f = best s f (s .settings .count)
 
 -- "the first in the line with the top priority among threads this core may run"
 unfoldable pub chosen : State → ℕ → ℕ
@@ -111,5 +130,6 @@ unfoldable pub decideFor : State → Option ℕ → Decided
 decideFor s none = record { mode = idleMode; partition = 0; thread = idle }
 decideFor s (some p) = record { mode = mode s; partition = p; thread = chosen s p }
 
-unfoldable pub decide : State → Decided
-decide s = decideFor s (winner s)
+-- the decision, where the partition f is favoured, or none
+unfoldable pub decide : State → Option ℕ → Decided
+decide s f = decideFor s (winner s f)

@@ -98,6 +98,11 @@ withRunning s t =
 unfoldable pub billed : State → Option ℕ
 billed s = cond (eqb (s .running) idle) none (some (thread s (s .running) .partition))
 
+-- the favoured partition: "the partition for which the thread running until this event was working when the event came", which is the one
+-- that is charged; none where the processor idled
+abbrev pub favoured : State → Option ℕ
+favoured s = billed s
+
 -- the totals, and the history, with e more for a partition in the current slot
 unfoldable pub addUsed : State → Option ℕ → ℕ → List Cycles
 addUsed s none e = s .used
@@ -205,9 +210,9 @@ act s b =
     (cond (eqb (kindOf b) end) (goes s t absent)
     s))))
 
--- 3. "A new decision is made, and its thread is the running one"
-unfoldable pub settle : Saved → Saved
-settle v = saved (withRunning (v .state) (decide (v .state) .thread)) (v .history)
+-- 3. "A new decision is made, and its thread is the running one"; f is favoured
+unfoldable pub settle : Option ℕ → Saved → Saved
+settle f v = saved (withRunning (v .state) (decide (v .state) f .thread)) (v .history)
 
 -- the history with every row zero; the numbers after the last row stay
 abbrev pub zeroRows : State → List ℕ → List ℕ
@@ -242,13 +247,18 @@ pub record Answer : Type 0 where
 abbrev pub nothing : Decided
 nothing = record { mode = 0; partition = 0; thread = 0 }
 
+-- to an accepted event, where the partition f is favoured
+abbrev pub acceptedWith : Option ℕ → Saved → List ℕ → Answer
+acceptedWith f v b = record { refusal = 0; decision = decide (apply v b .state) f; after = settle f (apply v b) }
+
 -- "A refusal returns the given state and zeros for the rest, and lent memory is as before"
 abbrev pub refusedBy : ℕ → Saved → Answer
 refusedBy n v = record { refusal = n; decision = nothing; after = v }
 
--- where n is the number by which the event b is refused on v, or 0
+-- where n is the number by which the event b is refused on v, or 0. Which partition is favoured, the given state says, whatever the event does to
+-- the running thread: "when the event came"; and "After a resume the same rule holds"
 abbrev pub answerBy : ℕ → Saved → List ℕ → Answer
-answerBy n v b = cond (eqb n 0) (record { refusal = 0; decision = decide (apply v b .state); after = settle (apply v b) }) (refusedBy n v)
+answerBy n v b = cond (eqb n 0) (acceptedWith (favoured (v .state)) v b) (refusedBy n v)
 
 unfoldable pub answer : Saved → List ℕ → Answer
 answer v b = answerBy (refused (v .state) (v .history) b) v b
