@@ -1,0 +1,84 @@
+-- Ties: the decision door repeats the last event's answer, and a tie moves the processor to no other partition.
+use mathlib.Core.Logic.{_≢_, inl, inr}
+use mathlib.Core.Path.{_≡_, refl, sym, ap, subst, _∙_}
+use Prim.Native.Nat.{ℕ, _<_}
+use mathlib.Core.Bool.{Bool, true, false}
+use mathlib.Core.Option.{Option, some}
+use mathlib.Core.List.{List}
+use Rattle.model.specs.State.{State}
+use Rattle.model.specs.Policy.{competing, winner, decideFor, decide}
+use Rattle.model.specs.Step.{Saved, Answer, billed, favoured, settle, apply, answer}
+use Rattle.model.specs.Typed.{Lengths}
+use Rattle.model.specs.Facts.{Settled, Accepted}
+use Rattle.model.proofs.Accepted.{of-fit}
+use Rattle.model.proofs.Winner.{winner-again, favoured-beaten}
+use Rattle.invariants.specs.Promises.{Repeated, Repeats, GivesWay, Switches}
+use Rattle.invariants.proofs.Kept.{billed-inside}
+use Rattle.invariants.proofs.Applied.{Left, leftBy, apply-left, after-sound, after-room}
+use Rattle.invariants.proofs.Answered.{accepts, accepted, accepts-it, acceptedAnswer, answer-accepted}
+use Rattle.invariants.proofs.Decision.{decide-picks, billed-winner}
+use Rattle.invariants.proofs.Looks.{competing-at, compare-at, decide-at}
+
+-- the decision stays the decision once its thread runs, and its partition is favoured
+pub decide-settle : (f : Option ℕ) (x : Saved) → Settled (x .state) (x .history)
+    → decide (settle f x .state) (favoured (settle f x .state)) ≡ decide (x .state) f
+unfolding settle decide
+decide-settle f x k =
+    decide-at s (s .stamp) (s .slot) (s .since) (decide s f .thread) (favoured (settle f x .state))
+    ∙ ap (λ (g : Option ℕ). decideFor s (winner s g)) (billed-winner f x k)
+    ∙ ap (decideFor s) (winner-again s f)
+  where
+    s : State
+    s = x .state
+
+module _ (v : Saved) (len : Lengths (v .state)) (b : List ℕ) (ok : accepts v b ≡ true) where
+  a : Accepted (v .state) (v .history) b
+  a = accepted v b ok
+
+  abbrev f : Option ℕ
+  f = favoured (v .state)
+
+  -- the state before the decision
+  abbrev x : Saved
+  x = apply v b
+
+  abbrev s : State
+  s = x .state
+
+  left : Left v b x
+  left = apply-left v b len a
+
+  repeated : Repeated (acceptedAnswer v b)
+  repeated = record {
+    taken = of-fit _ _ (record { room = after-room v b len a; sound = after-sound v b len a });
+    decision = decide-settle f x (left .settled);
+  }
+
+  module _ (p q : ℕ) (from : billed (v .state) ≡ some p) (to : billed (leftBy v b .state) ≡ some q) (n : p ≢ q) where
+    won : winner s f ≡ some q
+    won = sym (billed-winner f x (left .settled)) ∙ to
+
+    inside : p < s .settings .count
+    inside = rw (left .settings) (billed-inside (v .state) (v .history) (a .fit .sound) p from)
+
+    gives-way : GivesWay (leftBy v b .state) p q
+    unfolding settle
+    gives-way = go (competing s p) refl
+      where
+        go : (z : Bool) → competing s p ≡ z → GivesWay (leftBy v b .state) p q
+        go true i =
+            inl (compare-at s (s .stamp) (s .slot) (s .since) (decide s f .thread) q p
+            ∙ favoured-beaten s p q inside i (ap (winner s) (sym from) ∙ won) n)
+        go false i = inr (competing-at s (s .stamp) (s .slot) (s .since) (decide s f .thread) p ∙ i)
+
+    switched : (acceptedAnswer v b .decision .partition ≡ q) × GivesWay (leftBy v b .state) p q
+    switched = (decide-picks s (x .history) (left .settled) f q won .partition, gives-way)
+
+pub repeats : Repeats
+repeats v len b e = let ok : accepts v b ≡ true = accepts-it v b e in subst Repeated (sym (answer-accepted v b ok)) (repeated v len b ok)
+
+pub switches : Switches
+switches v len b e p q from =
+    let ok : accepts v b ≡ true = accepts-it v b e in
+    subst (λ (r : Answer). billed (r .after .state) ≡ some q → p ≢ q → (r .decision .partition ≡ q) × GivesWay (r .after .state) p q)
+    (sym (answer-accepted v b ok)) (switched v len b ok p q from)
