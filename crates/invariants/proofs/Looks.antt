@@ -57,16 +57,15 @@ module _ (s : State) (stamp : ℕ) (slot : Ticks) (since : Cycles) (running : �
     decide-at = for-at (best at f (s .settings .count)) ∙ ap (decideFor s) (best-at (s .settings .count))
 
 -- so two states that agree in those have the same decision, where the same partition is favoured
-pub decide-same : (s s′ : State) (f f′ : Option ℕ) → s .settings ≡ s′ .settings → s .used ≡ s′ .used → s .threads ≡ s′ .threads
-    → s .queue ≡ s′ .queue → s .queued ≡ s′ .queued → f ≡ f′ → decide s f ≡ decide s′ f′
-decide-same s s′ f f′ c u t q n e =
+pub decide-same : (s s′ : State) (f : Option ℕ) → s .settings ≡ s′ .settings → s .used ≡ s′ .used → s .threads ≡ s′ .threads
+    → s .queue ≡ s′ .queue → s .queued ≡ s′ .queued → decide s f ≡ decide s′ f
+decide-same s s′ f c u t q n =
     sym (decide-at s (s′ .stamp) (s′ .slot) (s′ .since) (s′ .running) f)
     ∙ ap (λ (x : Settings). decide (of x (s .used) (s .threads) (s .queue) (s .queued)) f) c
     ∙ ap (λ (x : List Cycles). decide (of (s′ .settings) x (s .threads) (s .queue) (s .queued)) f) u
     ∙ ap (λ (x : List Thread). decide (of (s′ .settings) (s′ .used) x (s .queue) (s .queued)) f) t
     ∙ ap (λ (x : List ℕ). decide (of (s′ .settings) (s′ .used) (s′ .threads) x (s .queued)) f) q
     ∙ ap (λ (x : ℕ). decide (of (s′ .settings) (s′ .used) (s′ .threads) (s′ .queue) x) f) n
-    ∙ ap (decide s′) e
   where
     of : Settings → List Cycles → List Thread → List ℕ → ℕ → State
     of c u t q n =

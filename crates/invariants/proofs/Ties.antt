@@ -19,14 +19,18 @@ use Rattle.invariants.proofs.Answered.{accepts, accepted, accepts-it, a
 use Rattle.invariants.proofs.Decision.{decide-picks, billed-winner}
 use Rattle.invariants.proofs.Looks.{competing-at, compare-at, decide-at}
 
--- the decision stays the decision once its thread runs, and its partition is favoured
+-- where the winner is itself favoured, the decision is the same
+pub decide-again : (s : State) (f g : Option ℕ) → g ≡ winner s f → decide s g ≡ decide s f
+unfolding decide
+decide-again s f g e = ap (λ (o : Option ℕ). decideFor s (winner s o)) e ∙ ap (decideFor s) (winner-again s f)
+
+-- so the decision stays the decision once its thread runs
 pub decide-settle : (f : Option ℕ) (x : Saved) → Settled (x .state) (x .history)
     → decide (settle f x .state) (favoured (settle f x .state)) ≡ decide (x .state) f
-unfolding settle decide
+unfolding settle
 decide-settle f x k =
     decide-at s (s .stamp) (s .slot) (s .since) (decide s f .thread) (favoured (settle f x .state))
-    ∙ ap (λ (g : Option ℕ). decideFor s (winner s g)) (billed-winner f x k)
-    ∙ ap (decideFor s) (winner-again s f)
+    ∙ decide-again s f (favoured (settle f x .state)) (billed-winner f x k)
   where
     s : State
     s = x .state
