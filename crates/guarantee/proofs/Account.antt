@@ -32,7 +32,7 @@ use Rattle.model.specs.Facts.{Settled}
 use Rattle.guarantee.specs.Demand3 as demand
 use Rattle.guarantee.specs.Demand3.{Last, chargeOf}
 use Rattle.guarantee.specs.Ledger.{addFirst, ledger, acceptedOf}
-use Rattle.guarantee.specs.Account.{recordBy, recordFrom, queueBy, queueAfter, standingBy, standing, stampFrom, elapsedFrom, sinceFrom, ticksFrom, slotFrom, picture, decisionOf, chargeBy, periodsBy, periodsFrom, usedFrom, favouredFrom, chosenBy, decisionFrom, decisionsFrom, ageOf, Accounted, Account, Answers}
+use Rattle.guarantee.specs.Account.{recordBy, recordFrom, queueBy, queueAfter, standingBy, standing, stampFrom, elapsedFrom, sinceFrom, ticksFrom, slotFrom, picture, decisionOf, chargeBy, periodsBy, periodsFrom, usedFrom, favouredFrom, favouredAfter, decisionFrom, decisionsFrom, ageOf, Accounted, Account, Answers}
 use Rattle.invariants.specs.Promises.{idleDecision}
 use Rattle.invariants.specs.Charges.{partOf}
 use Rattle.guarantee.specs.Scheduler.{HistoryMoved}
@@ -40,7 +40,7 @@ use Rattle.guarantee.proofs.Window.{newest-le-sum, window}
 use Rattle.invariants.proofs.Books.{share-outside}
 use Rattle.invariants.proofs.Acts.{act-since}
 use Rattle.invariants.proofs.Kept.{billed-inside}
-use Rattle.invariants.proofs.Applied.{Left, leftBy, apply-cases, after-left}
+use Rattle.invariants.proofs.Applied.{Left, afterEvent, apply-cases, after-left}
 use Rattle.invariants.proofs.Answered.{Good, accepts, answer-accepted, answer-refused, accepted, good-settle}
 use Rattle.guarantee.proofs.Instance.{kindFor, rows, good-slot, good-row, good-moved}
 use Rattle.invariants.proofs.Decision.{idle-exactly}
@@ -51,7 +51,7 @@ use Rattle.guarantee.proofs.Periods.{filled}
 use Rattle.guarantee.proofs.Ledgers.{newestFirst, ledger-is}
 use Rattle.guarantee.proofs.Totals.{used-is, fresh-row}
 use Rattle.invariants.proofs.Zeros.{zeros-length}
-use Rattle.invariants.proofs.Looks.{decide-at, decide-same}
+use Rattle.invariants.proofs.Looks.{decide-kept, decide-same}
 use Rattle.invariants.proofs.Ties.{decide-again}
 use Rattle.guarantee.proofs.Ages.{window-at, period-at}
 use Rattle.guarantee.proofs.Told.{after-record, after-queue}
@@ -110,10 +110,10 @@ module _ (c : Settings) (es : List (List ℕ)) (v : Saved) (m : View c es v) whe
       stored-is queued-is
 
   -- once its thread runs: what the decision door answers
-  decided-again : billed s ≡ chosenBy (decisionFrom c es) → decide s (favoured s) ≡ decisionFrom c es
+  decided-again : billed s ≡ favouredAfter (decisionFrom c es) → decide s (favoured s) ≡ decisionFrom c es
   decided-again e =
       let f : Option ℕ = favouredFrom c es in
-      decide-again s f (favoured s) (e ∙ ap chosenBy (sym decided) ∙ sym (decision-is s (v .history) k f)) ∙ decided
+      decide-again s f (favoured s) (e ∙ ap favouredAfter (sym decided) ∙ sym (decision-is s (v .history) k f)) ∙ decided
 
 -- ---- the charges of the account
 
@@ -193,7 +193,7 @@ module _ (c : Settings) (lent : List ℕ) (es : List (List ℕ)) (v : Saved) (m 
   -- ---- an event that is accepted
   module _ (b : List ℕ) (ok : accepts v b ≡ true) where
     abbrev v′ : Saved
-    v′ = leftBy v b
+    v′ = afterEvent v b
 
     abbrev entry : Entry
     entry = record { event = b; answer = answer v b }
@@ -259,16 +259,10 @@ module _ (c : Settings) (lent : List ℕ) (es : List (List ℕ)) (v : Saved) (m 
     }
 
     decided-after : decide (apply v b .state) (favoured (v .state)) ≡ decisionFrom c (b ∷ es)
-    unfolding settle standing standingBy
+    unfolding standing standingBy
     decided-after =
-        sym (decide-at y (y .stamp) (y .slot) (y .since) (decide y f .thread) f)
-        ∙ ap (decide (v′ .state)) (m .last .runs) ∙ decided c (b ∷ es) v′ view-after
-      where
-        y : State
-        y = apply v b .state
-
-        f : Option ℕ
-        f = favoured (v .state)
+        let f : Option ℕ = favoured (v .state) in
+        sym (decide-kept f (apply v b) f) ∙ ap (decide (v′ .state)) (m .last .runs) ∙ decided c (b ∷ es) v′ view-after
 
     answered : answer v b .decision ≡ decisionFrom c (b ∷ es)
     answered = ap (λ (x : Answer). x .decision) (answer-accepted v b ok) ∙ decided-after

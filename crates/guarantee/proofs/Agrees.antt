@@ -17,7 +17,7 @@ use Rattle.model.specs.State.{State}
 use Rattle.model.specs.Facts.{Settled}
 use Rattle.guarantee.specs.Demand3 as demand
 use Rattle.guarantee.specs.Demand3.{Last, lastOf, elapsedSince, chargeOf, chargedTo}
-use Rattle.guarantee.specs.Account.{chosenBy}
+use Rattle.guarantee.specs.Account.{favouredAfter}
 use Rattle.invariants.specs.Charges.{partOf}
 use Rattle.guarantee.specs.Scheduler.{charged}
 use Rattle.invariants.proofs.Decision.{decide-picks, decide-idle, billed-winner}
@@ -33,10 +33,10 @@ pub record Agrees (l : Last) (v : Saved) : Type 0 where
   pub stamp : l .stamp ≡ v .state .stamp
   pub runs : billed (v .state) ≡ chose l
 
-pub decision-is : (s : State) (h : List ℕ) → Settled s h → (f : Option ℕ) → winner s f ≡ chosenBy (decide s f)
+pub decision-is : (s : State) (h : List ℕ) → Settled s h → (f : Option ℕ) → winner s f ≡ favouredAfter (decide s f)
 decision-is s h k f = go (winner s f) refl
   where
-    go : (o : Option ℕ) → winner s f ≡ o → o ≡ chosenBy (decide s f)
+    go : (o : Option ℕ) → winner s f ≡ o → o ≡ favouredAfter (decide s f)
     go none e = rw (decide-idle s h k f e)
     go (some w) e = let d = decide-picks s h k f w e in rw (ne-eqb (decide s f .mode) 0 (d .busy .mode-busy), d .partition)
 

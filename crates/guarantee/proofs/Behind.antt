@@ -23,9 +23,9 @@ use Rattle.model.proofs.Ahead.{ahead, ahead-append, ahead-leaves, tail-behind, 
 use Rattle.invariants.specs.Promises.{Allowed, FirstOf, runsFor, Choice}
 use Rattle.invariants.proofs.Chosen.{competes, chosen-is}
 use Rattle.invariants.proofs.Decision.{decide-picks, decide-idle}
-use Rattle.invariants.proofs.Applied.{leftBy, apply-left}
+use Rattle.invariants.proofs.Applied.{afterEvent, apply-left}
 use Rattle.invariants.proofs.Answered.{Good, accepts, accepted, good-settle}
-use Rattle.invariants.proofs.Ties.{decide-settle}
+use Rattle.invariants.proofs.Ties.{decide-repeated}
 use Rattle.guarantee.specs.Account.{recordNamed, recordBy, queueBy}
 use Rattle.guarantee.specs.Turns.{Equals, keepsReady, isChosen}
 use Rattle.guarantee.proofs.Told.{after-record, after-queue}
@@ -102,7 +102,7 @@ module _ (c : Settings) (v : Saved) (g : Good c v) (b : List ℕ) (ok : accepts 
   s₀ = v .state
 
   abbrev v′ : Saved
-  v′ = leftBy v b
+  v′ = afterEvent v b
 
   a : Accepted s₀ (v .history) b
   a = accepted v b ok
@@ -260,7 +260,7 @@ module _ (c : Settings) (v : Saved) (g : Good c v) (b : List ℕ) (ok : accepts 
   -- who runs next is the thread of the decision on the state that the event leaves
   runs-decided : decide (v′ .state) (favoured (v′ .state)) .thread ≡ v′ .state .running
   unfolding settle
-  runs-decided = ap (λ (d : Decided). d .thread) (decide-settle (favoured s₀) (apply v b) (apply-left v b (g .lengths) a .settled))
+  runs-decided = ap (λ (d : Decided). d .thread) (decide-repeated (favoured s₀) (apply v b) (apply-left v b (g .lengths) a .settled))
 
   -- who is behind an equal does not run next
   pub runs-other : (t u : ℕ) → Equals (v′ .state) t u → ahead u t (queueOf (v′ .state)) ≡ true → v′ .state .running ≢ t

@@ -19,7 +19,7 @@ use Rattle.units.proofs.Laws.{has-budget}
 use Rattle.model.specs.State.{used, State}
 use Rattle.model.specs.Event
 use Rattle.model.specs.Event.{kindOf, elapsedAt, stampOf}
-use Rattle.model.specs.Policy.{candidates, competing, remaining, hasBudget, winner, chosen}
+use Rattle.model.specs.Policy.{competing, remaining, hasBudget, winner, chosen}
 use Rattle.model.specs.Step.{Saved, saved, billed, favoured, charge, next, moveSlot, sliced, ticked, act, settle, restart, apply}
 use Rattle.model.specs.Facts.{Settled, Sound, Accepted}
 use Rattle.sheet.proofs.Within.{budgets}
@@ -31,9 +31,10 @@ use Rattle.invariants.specs.Charges as booked
 use Rattle.invariants.proofs.Charges.{row-charge, row-clear}
 use Rattle.invariants.proofs.Winner.{winner-has}
 use Rattle.invariants.proofs.Decision.{competes-allowed, none-allowed, billed-winner}
+use Rattle.invariants.proofs.Looks.{competing-kept}
 use Rattle.invariants.proofs.Kept.{billed-inside}
 use Rattle.invariants.proofs.Acts
-use Rattle.invariants.proofs.Applied.{leftBy, apply-cases, Left, apply-left, after-sound}
+use Rattle.invariants.proofs.Applied.{afterEvent, apply-cases, Left, apply-left, after-sound}
 use Rattle.invariants.proofs.Answered.{Good, accepts, accepted, good-settle}
 
 abbrev pub kindFor : ℕ → Kind
@@ -44,7 +45,7 @@ model = record {
   State = Saved;
   Event = List ℕ;
   accepts = accepts;
-  after = leftBy;
+  after = afterEvent;
   kind = λ b. kindFor (kindOf b);
   elapsed = λ v b. elapsedAt (v .state) b;
   running = λ v. billed (v .state);
@@ -60,11 +61,6 @@ abbrev pub need : Settings → ℕ
 need c = C c / 4
 
 -- ---- the decision's laws
-
--- what the decision looks at is not the running thread
-competing-settle : (f : Option ℕ) (x : Saved) (p : ℕ) → competing (settle f x .state) p ≡ competing (x .state) p
-unfolding settle competing candidates
-competing-settle f x p = refl
 
 module _ (x : Saved) (k : Settled (x .state) (x .history)) where
   abbrev c′ : Settings
@@ -104,7 +100,7 @@ module _ (x : Saved) (k : Settled (x .state) (x .history)) where
       won e = sym (billed-winner f x k) ∙ e
 
       waits : (p : ℕ) → model .competes (settle f x) p → competing (x .state) p ≡ true
-      waits p q = sym (competing-settle f x p) ∙ q .1
+      waits p q = sym (competing-kept f x p) ∙ q .1
 
 -- ---- the history's laws
 
@@ -190,9 +186,9 @@ module _ (c : Settings) where
   good-row v g q i = row-length (W c) (v .history) q (c .count) i (good-room v g)
 
   pub good-moved : (v : Saved) (b : List ℕ) → Good c v → (q : ℕ) → q < c .count
-      → HistoryMoved (W c) (rows (W c)) (kindFor (kindOf b)) v (leftBy v b) q (partOf (billed (v .state)) q (elapsedAt (v .state) b))
+      → HistoryMoved (W c) (rows (W c)) (kindFor (kindOf b)) v (afterEvent v b) q (partOf (billed (v .state)) q (elapsedAt (v .state) b))
   good-moved v b g =
-      subst (λ (d : Settings). (q : ℕ) → q < d .count → HistoryMoved (W d) (rows (W d)) (kindFor (kindOf b)) v (leftBy v b) q (cost v b inside q)) (g .settings) (moved v b inside)
+      subst (λ (d : Settings). (q : ℕ) → q < d .count → HistoryMoved (W d) (rows (W d)) (kindFor (kindOf b)) v (afterEvent v b) q (cost v b inside q)) (g .settings) (moved v b inside)
     where
       inside : v .state .slot .0 < W (v .state .settings)
       inside = g .fit .sound .settled .books .inside
@@ -207,7 +203,7 @@ module _ (c : Settings) where
         was-sound = g;
         sound = good-settle c v b g e;
         decided =
-            subst (λ (d : Settings). abstract.DecidedLaws model (rows (W d)) (d .count) (need d) (budget d) (leftBy v b))
+            subst (λ (d : Settings). abstract.DecidedLaws model (rows (W d)) (d .count) (need d) (budget d) (afterEvent v b))
             (l .settings ∙ g .settings)
             (decided x (l .settled) (favoured (v .state)) (after-sound v b (g .lengths) a));
         moved = good-moved v b g;

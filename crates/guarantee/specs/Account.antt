@@ -102,9 +102,9 @@ picture c threads queue totals =
 abbrev pub inWindow : Settings → List ℕ → ℕ
 inWindow c periods = sum (take (W c) periods)
 
--- the partition of which the decision d chose a thread: it is the favoured one when the next event comes
-abbrev pub chosenBy : Decided → Option ℕ
-chosenBy d = cond (eqb (d .mode) idleMode) none (some (d .partition))
+-- the favoured partition of the next decision: the one of which the decision d chose a thread, which runs until the next event
+abbrev pub favouredAfter : Decided → Option ℕ
+favouredAfter d = cond (eqb (d .mode) idleMode) none (some (d .partition))
 
 -- x, if the decision d chose a thread of p; "idle time goes to no account"
 unfoldable pub chargeBy : Decided → ℕ → ℕ → ℕ
@@ -140,7 +140,7 @@ standingBy e d x a =
       records = λ t. recordBy e (d .thread) t (a .records t);
       queue = queueBy e (d .thread) (a .records) (a .queue);
       periods = λ p. periodsBy e (chargeBy d p x) (a .periods p);
-      favoured = chosenBy d;
+      favoured = favouredAfter d;
     }
 
 unfoldable pub standing : Settings → List (List ℕ) → Standing

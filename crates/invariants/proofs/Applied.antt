@@ -31,8 +31,8 @@ use Rattle.invariants.proofs.Typing.{typed-of}
 use Rattle.invariants.proofs.Decision.{decide-runs}
 
 -- the state and the history that an accepted event leaves
-abbrev pub leftBy : Saved → List ℕ → Saved
-leftBy v b = settle (favoured (v .state)) (apply v b)
+abbrev pub afterEvent : Saved → List ℕ → Saved
+afterEvent v b = settle (favoured (v .state)) (apply v b)
 
 -- ---- the threads' action
 
@@ -279,22 +279,22 @@ module _ (v : Saved) (b : List ℕ) where
     unfolding settle
     settle-sound f x l = record { settled = settle-left f x l .settled; runs = decide-runs (x .state) (x .history) (l .settled) f }
 
-    pub after-left : Left (leftBy v b)
+    pub after-left : Left (afterEvent v b)
     after-left = settle-left (favoured s) (apply v b) apply-left
 
-    pub after-sound : Sound (leftBy v b .state) (leftBy v b .history)
+    pub after-sound : Sound (afterEvent v b .state) (afterEvent v b .history)
     after-sound = settle-sound (favoured s) (apply v b) apply-left
 
-    pub after-room : wanted (leftBy v b .state) ≤ length (leftBy v b .history)
+    pub after-room : wanted (afterEvent v b .state) ≤ length (afterEvent v b .history)
     after-room = rw (after-left .size, after-left .settings) (a .fit .room)
 
     stamp-fits : Bytes b → stampOf b < 2 ^ 32
     unfolding stampOf
     stamp-fits y = omega (arith, y 4, y 5, y 6, y 7)
 
-    pub after-typed : Typed s h → Bytes b → Typed (leftBy v b .state) (leftBy v b .history)
+    pub after-typed : Typed s h → Bytes b → Typed (afterEvent v b .state) (afterEvent v b .history)
     after-typed t y =
-        let x : Saved = leftBy v b in
+        let x : Saved = afterEvent v b in
         let l : Left x = after-left in
         typed-of (x .state) (x .history) after-sound (l .lengths) after-room
         (rw (l .settings) (t .state .settings))

@@ -1,4 +1,4 @@
--- What a decision looks at: settings, threads, ready queue and totals; not the clock, nor the running thread.
+-- What a decision looks at beside the favoured partition: settings, threads, ready queue and totals; not the clock, nor the running thread.
 use mathlib.Core.Path.{_≡_, refl, sym, ap, _∙_}
 use Prim.Native.Nat.{ℕ, zero, suc}
 use mathlib.Core.Bool.{cond}
@@ -8,6 +8,7 @@ use Rattle.units.specs.declared.Cycles.{Cycles}
 use Rattle.units.specs.declared.Ticks.{Ticks}
 use Rattle.sheet.specs.declared.Settings.{Settings}
 use Rattle.model.specs.Policy.{candidates, competing, topPriority, remaining, hasBudget, mode, byBudget, byPriority, byFraction, ratioPolicy, compare, better, best, winner, chosen, decideFor, decide}
+use Rattle.model.specs.Step.{Saved, settle}
 use Rattle.model.specs.State.{Thread, State}
 
 module _ (s : State) (stamp : ℕ) (slot : Ticks) (since : Cycles) (running : ℕ) where
@@ -26,11 +27,7 @@ module _ (s : State) (stamp : ℕ) (slot : Ticks) (since : Cycles) (running : �
         running = running;
       }
 
-  pub competing-at : (p : ℕ) → competing at p ≡ competing s p
-  unfolding candidates competing
-  competing-at p = refl
-
-  pub compare-at : (p q : ℕ) → compare at (mode at) p q ≡ compare s (mode s) p q
+  compare-at : (p q : ℕ) → compare at (mode at) p q ≡ compare s (mode s) p q
   unfolding candidates competing topPriority remaining hasBudget mode byBudget byPriority byFraction ratioPolicy compare
   compare-at p q = refl
 
@@ -52,11 +49,28 @@ module _ (s : State) (stamp : ℕ) (slot : Ticks) (since : Cycles) (running : �
     for-at none = refl
     for-at (some p) = refl
 
-    pub decide-at : decide at f ≡ decide s f
+    decide-at : decide at f ≡ decide s f
     unfolding decide winner
     decide-at = for-at (best at f (s .settings .count)) ∙ ap (decideFor s) (best-at (s .settings .count))
 
--- so two states that agree in those have the same decision, where the same partition is favoured
+-- so which thread runs makes no difference, where the same partition is favoured
+module _ (f : Option ℕ) (x : Saved) where
+  abbrev s′ : State
+  s′ = x .state
+
+  pub competing-kept : (p : ℕ) → competing (settle f x .state) p ≡ competing s′ p
+  unfolding settle candidates competing
+  competing-kept p = refl
+
+  pub compare-kept : (p q : ℕ) → compare (settle f x .state) (mode (settle f x .state)) p q ≡ compare s′ (mode s′) p q
+  unfolding settle
+  compare-kept = compare-at s′ (s′ .stamp) (s′ .slot) (s′ .since) (decide s′ f .thread)
+
+  pub decide-kept : (g : Option ℕ) → decide (settle f x .state) g ≡ decide s′ g
+  unfolding settle
+  decide-kept = decide-at s′ (s′ .stamp) (s′ .slot) (s′ .since) (decide s′ f .thread)
+
+-- and two states that agree in what it looks at have the same decision
 pub decide-same : (s s′ : State) (f : Option ℕ) → s .settings ≡ s′ .settings → s .used ≡ s′ .used → s .threads ≡ s′ .threads
     → s .queue ≡ s′ .queue → s .queued ≡ s′ .queued → decide s f ≡ decide s′ f
 decide-same s s′ f c u t q n =

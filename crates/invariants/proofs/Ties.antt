@@ -14,10 +14,10 @@ use Rattle.model.proofs.Accepted.{of-fit}
 use Rattle.model.proofs.Winner.{winner-again, favoured-beaten}
 use Rattle.invariants.specs.Promises.{Repeated, Repeats, GivesWay, Switches}
 use Rattle.invariants.proofs.Kept.{billed-inside}
-use Rattle.invariants.proofs.Applied.{Left, leftBy, apply-left, after-sound, after-room}
+use Rattle.invariants.proofs.Applied.{Left, afterEvent, apply-left, after-sound, after-room}
 use Rattle.invariants.proofs.Answered.{accepts, accepted, accepts-it, acceptedAnswer, answer-accepted}
 use Rattle.invariants.proofs.Decision.{decide-picks, billed-winner}
-use Rattle.invariants.proofs.Looks.{competing-at, compare-at, decide-at}
+use Rattle.invariants.proofs.Looks.{competing-kept, compare-kept, decide-kept}
 
 -- where the winner is itself favoured, the decision is the same
 pub decide-again : (s : State) (f g : Option ℕ) → g ≡ winner s f → decide s g ≡ decide s f
@@ -25,15 +25,11 @@ unfolding decide
 decide-again s f g e = ap (λ (o : Option ℕ). decideFor s (winner s o)) e ∙ ap (decideFor s) (winner-again s f)
 
 -- so the decision stays the decision once its thread runs
-pub decide-settle : (f : Option ℕ) (x : Saved) → Settled (x .state) (x .history)
+pub decide-repeated : (f : Option ℕ) (x : Saved) → Settled (x .state) (x .history)
     → decide (settle f x .state) (favoured (settle f x .state)) ≡ decide (x .state) f
-unfolding settle
-decide-settle f x k =
-    decide-at s (s .stamp) (s .slot) (s .since) (decide s f .thread) (favoured (settle f x .state))
-    ∙ decide-again s f (favoured (settle f x .state)) (billed-winner f x k)
-  where
-    s : State
-    s = x .state
+decide-repeated f x k =
+    let g : Option ℕ = favoured (settle f x .state) in
+    decide-kept f x g ∙ decide-again (x .state) f g (billed-winner f x k)
 
 module _ (v : Saved) (len : Lengths (v .state)) (b : List ℕ) (ok : accepts v b ≡ true) where
   a : Accepted (v .state) (v .history) b
@@ -55,27 +51,24 @@ module _ (v : Saved) (len : Lengths (v .state)) (b : List ℕ) (ok : accepts v b
   repeated : Repeated (acceptedAnswer v b)
   repeated = record {
     taken = of-fit _ _ (record { room = after-room v b len a; sound = after-sound v b len a });
-    decision = decide-settle f x (left .settled);
+    decision = decide-repeated f x (left .settled);
   }
 
-  module _ (p q : ℕ) (from : billed (v .state) ≡ some p) (to : billed (leftBy v b .state) ≡ some q) (n : p ≢ q) where
+  module _ (p q : ℕ) (from : billed (v .state) ≡ some p) (to : billed (afterEvent v b .state) ≡ some q) (n : p ≢ q) where
     won : winner s f ≡ some q
     won = sym (billed-winner f x (left .settled)) ∙ to
 
     inside : p < s .settings .count
     inside = rw (left .settings) (billed-inside (v .state) (v .history) (a .fit .sound) p from)
 
-    gives-way : GivesWay (leftBy v b .state) p q
-    unfolding settle
+    gives-way : GivesWay (afterEvent v b .state) p q
     gives-way = go (competing s p) refl
       where
-        go : (z : Bool) → competing s p ≡ z → GivesWay (leftBy v b .state) p q
-        go true i =
-            inl (compare-at s (s .stamp) (s .slot) (s .since) (decide s f .thread) q p
-            ∙ favoured-beaten s p q inside i (ap (winner s) (sym from) ∙ won) n)
-        go false i = inr (competing-at s (s .stamp) (s .slot) (s .since) (decide s f .thread) p ∙ i)
+        go : (z : Bool) → competing s p ≡ z → GivesWay (afterEvent v b .state) p q
+        go true i = inl (compare-kept f x q p ∙ favoured-beaten s p q inside i (ap (winner s) (sym from) ∙ won) n)
+        go false i = inr (competing-kept f x p ∙ i)
 
-    switched : (acceptedAnswer v b .decision .partition ≡ q) × GivesWay (leftBy v b .state) p q
+    switched : (acceptedAnswer v b .decision .partition ≡ q) × GivesWay (afterEvent v b .state) p q
     switched = (decide-picks s (x .history) (left .settled) f q won .partition, gives-way)
 
 pub repeats : Repeats
