@@ -56,7 +56,7 @@ def refutation(edit):
         return beside.read_text()
     assert edit.shown, f"{edit.path}: neither a line `shown:` nor {beside.name}"
     file, entry = edit.shown.split()
-    return SHOWN.format(file=file, entry=entry, test={"Runs": "agrees", "Places": "stand", "Refusals": "agree"}[file])
+    return SHOWN.format(file=file, entry=entry, test={"Runs": "agrees", "Places": "stand", "Ties": "won", "Refusals": "agree"}[file])
 
 
 def crate_of(folder, edits, edited):
