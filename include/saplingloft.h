@@ -263,7 +263,7 @@ static inline struct saplingloft_progress saplingloft_run(struct saplingloft_sta
 }
 
 /* The decision that the rules give for a state, which stays as it is (refusals 7 and 8): whether a saved state can be used, and who runs in it. The
- * favoured partition is that of the state's running thread, so that on what an event left this is the answer to that event again. */
+ * favoured partition is that of the state's running thread, so that on what an accepted event left this is its answer again. */
 static inline struct saplingloft_answer saplingloft_decision(const struct saplingloft_state *state, const uint32_t *history, size_t history_length)
 {
     return saplingloft_unpack(saplingloft_lent_decision(SAPLINGLOFT_PARTS(state), history, history_length));
