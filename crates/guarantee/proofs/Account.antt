@@ -3,7 +3,7 @@ use mathlib.Core.Logic.{_≢_}
 use mathlib.Core.Path.{_≡_, refl, sym, ap, subst, _∙_}
 use Prim.Native.Nat.{ℕ, suc, _+_, _-_, _*_, _%_, _≤_, _<_}
 use mathlib.Core.Bool.{Bool, true, false, not, cond, _||_}
-use mathlib.Core.Option.{none, some}
+use mathlib.Core.Option.{Option, none, some}
 use mathlib.Core.List.{List, [], _∷_, _++_, map, reverseAux}
 use lib.ListN.{length, getD, drop, replicate, length-drop, length-replicate, getD-replicate, List·getD-eq-default}
 use lib.Seq.{ext-getD, length-take-le, drop-at}
@@ -25,14 +25,14 @@ use Rattle.model.specs.State.{cycles, absent, thread, queueOf, used, Thread, St
 use Rattle.model.specs.Policy.{Decided, decide}
 use Rattle.model.specs.Event
 use Rattle.model.specs.Event.{kindOf, stampOf, elapsedAt}
-use Rattle.model.specs.Step.{Saved, Answer, billed, charge, moveSlot, sliced, act, settle, restart, apply, answer}
+use Rattle.model.specs.Step.{Saved, Answer, billed, favoured, charge, moveSlot, sliced, act, settle, restart, apply, answer}
 use Rattle.model.specs.Run.{Entry, run, freshState, fresh, after}
 use Rattle.model.specs.Doors.{refusedStart}
 use Rattle.model.specs.Facts.{Settled}
 use Rattle.guarantee.specs.Demand3 as demand
 use Rattle.guarantee.specs.Demand3.{Last, chargeOf}
 use Rattle.guarantee.specs.Ledger.{addFirst, ledger, acceptedOf}
-use Rattle.guarantee.specs.Account.{recordBy, recordFrom, queueBy, queueAfter, standingBy, standing, stampFrom, elapsedFrom, sinceFrom, ticksFrom, slotFrom, picture, decisionOf, chargeBy, periodsBy, periodsFrom, usedFrom, decisionFrom, decisionsFrom, ageOf, Accounted, Account, Answers}
+use Rattle.guarantee.specs.Account.{recordBy, recordFrom, queueBy, queueAfter, standingBy, standing, stampFrom, elapsedFrom, sinceFrom, ticksFrom, slotFrom, picture, decisionOf, chargeBy, periodsBy, periodsFrom, usedFrom, favouredFrom, favouredAfter, decisionFrom, decisionsFrom, ageOf, Accounted, Account, Answers}
 use Rattle.invariants.specs.Promises.{idleDecision}
 use Rattle.invariants.specs.Charges.{partOf}
 use Rattle.guarantee.specs.Scheduler.{HistoryMoved}
@@ -40,18 +40,19 @@ use Rattle.guarantee.proofs.Window.{newest-le-sum, window}
 use Rattle.invariants.proofs.Books.{share-outside}
 use Rattle.invariants.proofs.Acts.{act-since}
 use Rattle.invariants.proofs.Kept.{billed-inside}
-use Rattle.invariants.proofs.Applied.{Left, apply-cases, after-left}
+use Rattle.invariants.proofs.Applied.{Left, afterEvent, apply-cases, after-left}
 use Rattle.invariants.proofs.Answered.{Good, accepts, answer-accepted, answer-refused, accepted, good-settle}
 use Rattle.guarantee.proofs.Instance.{kindFor, rows, good-slot, good-row, good-moved}
 use Rattle.invariants.proofs.Decision.{idle-exactly}
 use Rattle.invariants.proofs.Fresh.{start-of, start-good}
 use Rattle.guarantee.proofs.Log.{accepted-is}
-use Rattle.guarantee.proofs.Agrees.{Agrees, agrees, charge-is}
+use Rattle.guarantee.proofs.Agrees.{Agrees, agrees, decision-is, charge-is}
 use Rattle.guarantee.proofs.Periods.{filled}
 use Rattle.guarantee.proofs.Ledgers.{newestFirst, ledger-is}
 use Rattle.guarantee.proofs.Totals.{used-is, fresh-row}
 use Rattle.invariants.proofs.Zeros.{zeros-length}
-use Rattle.guarantee.proofs.Looks.{decide-same, decide-settle}
+use Rattle.invariants.proofs.Looks.{decide-kept, decide-same}
+use Rattle.invariants.proofs.Ties.{decide-again}
 use Rattle.guarantee.proofs.Ages.{window-at, period-at}
 use Rattle.guarantee.proofs.Told.{after-record, after-queue}
 
@@ -99,14 +100,20 @@ module _ (c : Settings) (es : List (List ℕ)) (v : Saved) (m : View c es v) whe
   abbrev totals : ℕ → Cycles
   totals = λ p. cycles (usedFrom c es p)
 
-  decided : decide s ≡ decisionFrom c es
+  decided : decide s (favouredFrom c es) ≡ decisionFrom c es
   unfolding decisionOf
-  decided = decide-same s (picture c (recordFrom c es) (queueAfter c es) (usedFrom c es)) (m .good .settings)
+  decided = decide-same s (picture c (recordFrom c es) (queueAfter c es) (usedFrom c es)) (favouredFrom c es) (m .good .settings)
       (ext-getD (cycles 0) (s .used) (map totals (below 16)) (m .good .lengths .used ∙ sym (table-length totals 16))
       (λ p b. ap cycles (total-is p) ∙ sym (table-at totals 16 p (cycles 0) (rw (m .good .lengths .used) at b))))
       (ext-getD absent (s .threads) (map (recordFrom c es) (below 64)) (m .good .lengths .threads ∙ sym (table-length (recordFrom c es) 64))
       (λ t b. m .threads t ∙ sym (table-at (recordFrom c es) 64 t absent (rw (m .good .lengths .threads) at b))))
       stored-is queued-is
+
+  -- once its thread runs: what the decision door answers
+  decided-again : billed s ≡ favouredAfter (decisionFrom c es) → decide s (favoured s) ≡ decisionFrom c es
+  decided-again e =
+      let f : Option ℕ = favouredFrom c es in
+      decide-again s f (favoured s) (e ∙ ap favouredAfter (sym decided) ∙ sym (decision-is s (v .history) k f)) ∙ decided
 
 -- ---- the charges of the account
 
@@ -169,7 +176,7 @@ module _ (c : Settings) (lent : List ℕ) (es : List (List ℕ)) (v : Saved) (m 
     history = λ p k i j. number p k i j;
     past = m .past;
     size = m .size;
-    decision = decided c es v (m .view);
+    decision = decided-again c es v (m .view) (m .last .runs);
     running = m .running;
   }
     where
@@ -186,7 +193,7 @@ module _ (c : Settings) (lent : List ℕ) (es : List (List ℕ)) (v : Saved) (m 
   -- ---- an event that is accepted
   module _ (b : List ℕ) (ok : accepts v b ≡ true) where
     abbrev v′ : Saved
-    v′ = settle (apply v b)
+    v′ = afterEvent v b
 
     abbrev entry : Entry
     entry = record { event = b; answer = answer v b }
@@ -251,8 +258,11 @@ module _ (c : Settings) (lent : List ℕ) (es : List (List ℕ)) (v : Saved) (m 
       outside = outside-after;
     }
 
-    decided-after : decide (apply v b .state) ≡ decisionFrom c (b ∷ es)
-    decided-after = sym (decide-settle (apply v b)) ∙ decided c (b ∷ es) v′ view-after
+    decided-after : decide (apply v b .state) (favoured (v .state)) ≡ decisionFrom c (b ∷ es)
+    unfolding standing standingBy
+    decided-after =
+        let f : Option ℕ = favoured (v .state) in
+        sym (decide-kept f (apply v b) f) ∙ ap (decide (v′ .state)) (m .last .runs) ∙ decided c (b ∷ es) v′ view-after
 
     answered : answer v b .decision ≡ decisionFrom c (b ∷ es)
     answered = ap (λ (x : Answer). x .decision) (answer-accepted v b ok) ∙ decided-after
@@ -265,7 +275,7 @@ module _ (c : Settings) (lent : List ℕ) (es : List (List ℕ)) (v : Saved) (m 
 
     since-after : v′ .state .since .0 ≡ sinceFrom (b ∷ es)
     unfolding sinceFrom settle restart charge moveSlot sliced
-    since-after = apply-cases v b (λ x. settle x .state .since .0 ≡ sinceFrom (b ∷ es)) (λ q. rw q) (λ q. rw q) (λ n t. longer n t)
+    since-after = apply-cases v b (λ x. settle (favoured (v .state)) x .state .since .0 ≡ sinceFrom (b ∷ es)) (λ q. rw q) (λ q. rw q) (λ n t. longer n t)
       where
         untimed : (n : ℕ) → kindOf b ≢ Event.resume → kindOf b ≢ Event.tick → n ≡ cond (eqb (kindOf b) Event.tick || eqb (kindOf b) Event.resume) 0 n
         untimed n a t = rw (ne-eqb (kindOf b) Event.tick t, ne-eqb (kindOf b) Event.resume a)
@@ -279,7 +289,7 @@ module _ (c : Settings) (lent : List ℕ) (es : List (List ℕ)) (v : Saved) (m 
 
     resumed-slot : kindOf b ≡ Event.resume → v′ .state .slot .0 ≡ 0
     unfolding settle restart
-    resumed-slot k = apply-cases v b (λ x. settle x .state .slot .0 ≡ 0) (λ q. refl) (λ q. let z : ⊥ = omega arith in absurd z) (λ n t. absurd (n k))
+    resumed-slot k = apply-cases v b (λ x. settle (favoured (v .state)) x .state .slot .0 ≡ 0) (λ q. refl) (λ q. let z : ⊥ = omega arith in absurd z) (λ n t. absurd (n k))
 
     slot-after : v′ .state .slot .0 ≡ slotFrom c (b ∷ es)
     unfolding ticksFrom
@@ -340,7 +350,7 @@ module _ (sheet h : List ℕ) (e : refusedStart sheet h ≡ 0) where
   unfolding any
   idle-fresh =
       sym (decided c₀ [] (fresh c₀ h) view-fresh)
-      ∙ idle-exactly (freshState c₀) (fresh c₀ h .history) (start-good sheet h e .fit .sound .settled) .when (λ t a. clash (a .queued) refl)
+      ∙ idle-exactly (freshState c₀) (fresh c₀ h .history) (start-good sheet h e .fit .sound .settled) (favouredFrom c₀ []) .when (λ t a. clash (a .queued) refl)
 
   matches-fresh : Matches c₀ h [] (fresh c₀ h)
   unfolding stampFrom sinceFrom ticksFrom billed

@@ -11,18 +11,19 @@ use Rattle.lists.specs.Lists.{consIf}
 use Rattle.sheet.specs.declared.Settings.{Settings}
 use Rattle.model.specs.Event.{elapsedAt}
 use Rattle.model.specs.Policy.{winner, decide}
-use Rattle.model.specs.Step.{Saved, billed, apply, answer}
+use Rattle.model.specs.Step.{Saved, billed, favoured, apply, answer}
 use Rattle.model.specs.Run.{Entry}
 use Rattle.model.specs.State.{State}
 use Rattle.model.specs.Facts.{Settled}
 use Rattle.guarantee.specs.Demand3 as demand
 use Rattle.guarantee.specs.Demand3.{Last, lastOf, elapsedSince, chargeOf, chargedTo}
+use Rattle.guarantee.specs.Account.{favouredAfter}
 use Rattle.invariants.specs.Charges.{partOf}
 use Rattle.guarantee.specs.Scheduler.{charged}
-use Rattle.invariants.proofs.Decision.{decide-picks, decide-idle}
+use Rattle.invariants.proofs.Decision.{decide-picks, decide-idle, billed-winner}
 use Rattle.invariants.proofs.Applied.{apply-left, after-left}
 use Rattle.invariants.proofs.Answered.{Good, accepted, good-answer}
-use Rattle.guarantee.proofs.Instance.{model, billed-winner}
+use Rattle.guarantee.proofs.Instance.{model}
 use Rattle.guarantee.proofs.Log.{Log, translated, translate, accepted-is, when-accepted, when-refused}
 
 abbrev pub chose : Last → Option ℕ
@@ -32,22 +33,23 @@ pub record Agrees (l : Last) (v : Saved) : Type 0 where
   pub stamp : l .stamp ≡ v .state .stamp
   pub runs : billed (v .state) ≡ chose l
 
-decision-is : (s : State) (h : List ℕ) → Settled s h → winner s ≡ cond (eqb (decide s .mode) 0) none (some (decide s .partition))
-decision-is s h k = go (winner s) refl
+pub decision-is : (s : State) (h : List ℕ) → Settled s h → (f : Option ℕ) → winner s f ≡ favouredAfter (decide s f)
+decision-is s h k f = go (winner s f) refl
   where
-    go : (o : Option ℕ) → winner s ≡ o → o ≡ cond (eqb (decide s .mode) 0) none (some (decide s .partition))
-    go none e = rw (decide-idle s h k e)
-    go (some w) e = let d = decide-picks s h k w e in rw (ne-eqb (decide s .mode) 0 (d .busy .mode-busy), d .partition)
+    go : (o : Option ℕ) → winner s f ≡ o → o ≡ favouredAfter (decide s f)
+    go none e = rw (decide-idle s h k f e)
+    go (some w) e = let d = decide-picks s h k f w e in rw (ne-eqb (decide s f .mode) 0 (d .busy .mode-busy), d .partition)
 
 module _ (c : Settings) (v : Saved) (g : Good c v) (e : Entry) (a : e .answer ≡ answer v (e .event)) where
   pub agrees : demand.accepted e ≡ true → Agrees (lastOf e) (e .answer .after)
   agrees h =
       let b : List ℕ = e .event in
+      let f : Option ℕ = favoured (v .state) in
       let ok = accepted v b (sym (accepted-is v e a) ∙ h) in
       let k : Settled (apply v b .state) (apply v b .history) = apply-left v b (g .lengths) ok .settled in
       rw (when-accepted v e a h) (record {
         stamp = sym (after-left v b (g .lengths) ok .stamp);
-        runs = billed-winner (apply v b) k ∙ decision-is (apply v b .state) (apply v b .history) k;
+        runs = billed-winner f (apply v b) k ∙ decision-is (apply v b .state) (apply v b .history) k f;
       })
 
 pub elapsed-is : (l : Last) (v : Saved) (e : Entry) → Agrees l v → elapsedSince l e ≡ elapsedAt (v .state) (e .event)

@@ -17,16 +17,17 @@ use Rattle.model.specs.Slices.{withSlice, counted, ends}
 use Rattle.model.specs.Policy.{Decided, winner, chosen, decideFor, decide}
 use Rattle.model.specs.Event
 use Rattle.model.specs.Event.{kindOf, threadOf, priorityOf}
-use Rattle.model.specs.Step.{Saved, leaves, toTail, turned, withPriority, requeued, settle, apply}
+use Rattle.model.specs.Step.{Saved, leaves, toTail, turned, withPriority, requeued, favoured, settle, apply}
 use Rattle.model.specs.Facts.{Settled, Accepted}
 use Rattle.model.proofs.Ahead.{ahead, ahead-append, ahead-leaves, tail-behind, tail-ahead, requeued-same, requeued-ahead, not-behind}
 use Rattle.invariants.specs.Promises.{Allowed, FirstOf, runsFor, Choice}
 use Rattle.invariants.proofs.Chosen.{competes, chosen-is}
 use Rattle.invariants.proofs.Decision.{decide-picks, decide-idle}
+use Rattle.invariants.proofs.Applied.{afterEvent, apply-left}
 use Rattle.invariants.proofs.Answered.{Good, accepts, accepted, good-settle}
+use Rattle.invariants.proofs.Ties.{decide-repeated}
 use Rattle.guarantee.specs.Account.{recordNamed, recordBy, queueBy}
 use Rattle.guarantee.specs.Turns.{Equals, keepsReady, isChosen}
-use Rattle.guarantee.proofs.Looks.{decide-settle}
 use Rattle.guarantee.proofs.Told.{after-record, after-queue}
 
 -- ---- who is behind an equal is not chosen
@@ -53,36 +54,36 @@ module _ (s : State) (t u : ℕ) (m : Equals s t u) (behind : ahead u t (queueOf
   pub not-chosen : (p : ℕ) → thread s t .partition ≡ p → chosen s p ≢ t
   not-chosen p e = not-choice p (chosen s p) (chosen-is s p (competes s p t (m .one) e))
 
-  module _ (h : List ℕ) (k : Settled s h) where
-    not-decided : decide s .thread ≢ t
-    not-decided = go (winner s) refl
+  module _ (h : List ℕ) (k : Settled s h) (f : Option ℕ) where
+    not-decided : decide s f .thread ≢ t
+    not-decided = go (winner s f) refl
       where
-        go : (o : Option ℕ) → winner s ≡ o → decide s .thread ≢ t
-        go none e = λ f.
+        go : (o : Option ℕ) → winner s f ≡ o → decide s f .thread ≢ t
+        go none e = λ i.
             let inside : t < 64 = k .queue .inside t (m .one .queued) in
-            let z : idle ≡ t = sym (ap (λ (d : Decided). d .thread) (decide-idle s h k e)) ∙ f in
+            let z : idle ≡ t = sym (ap (λ (d : Decided). d .thread) (decide-idle s h k f e)) ∙ i in
             let x : ⊥ = omega arith in
             absurd x
-        go (some w) e = not-choice _ _ (decide-picks s h k w e .busy .choice)
+        go (some w) e = not-choice _ _ (decide-picks s h k f w e .busy .choice)
 
 -- ---- who runs is the one that its partition would run
 
-decided-for : (s : State) (w : ℕ) → winner s ≡ some w → decide s .thread ≡ chosen s w
+decided-for : (s : State) (f : Option ℕ) (w : ℕ) → winner s f ≡ some w → decide s f .thread ≡ chosen s w
 unfolding decide decideFor
-decided-for s w e = rw e
+decided-for s f w e = rw e
 
-module _ (s : State) (h : List ℕ) (k : Settled s h) (u : ℕ) (inside : u < 64) where
-  decided-chosen : decide s .thread ≡ u → isChosen u s ≡ true
-  decided-chosen f = go (winner s) refl
+module _ (s : State) (h : List ℕ) (k : Settled s h) (f : Option ℕ) (u : ℕ) (inside : u < 64) where
+  decided-chosen : decide s f .thread ≡ u → isChosen u s ≡ true
+  decided-chosen i = go (winner s f) refl
     where
-      go : (o : Option ℕ) → winner s ≡ o → isChosen u s ≡ true
+      go : (o : Option ℕ) → winner s f ≡ o → isChosen u s ≡ true
       go none e =
-          let z : idle ≡ u = sym (ap (λ (d : Decided). d .thread) (decide-idle s h k e)) ∙ f in
+          let z : idle ≡ u = sym (ap (λ (d : Decided). d .thread) (decide-idle s h k f e)) ∙ i in
           let x : ⊥ = omega arith in
           absurd x
       go (some w) e =
-          let home : thread s u .partition ≡ w = subst (λ (x : ℕ). thread s x .partition ≡ w) f (decide-picks s h k w e .thread-partition) in
-          eq-eqb _ _ (ap (chosen s) home ∙ sym (decided-for s w e) ∙ f)
+          let home : thread s u .partition ≡ w = subst (λ (x : ℕ). thread s x .partition ≡ w) i (decide-picks s h k f w e .thread-partition) in
+          eq-eqb _ _ (ap (chosen s) home ∙ sym (decided-for s f w e) ∙ i)
 
 -- ---- one accepted event
 
@@ -101,7 +102,7 @@ module _ (c : Settings) (v : Saved) (g : Good c v) (b : List ℕ) (ok : accepts 
   s₀ = v .state
 
   abbrev v′ : Saved
-  v′ = settle (apply v b)
+  v′ = afterEvent v b
 
   a : Accepted s₀ (v .history) b
   a = accepted v b ok
@@ -256,16 +257,18 @@ module _ (c : Settings) (v : Saved) (g : Good c v) (b : List ℕ) (ok : accepts 
   turn-behind t u k e f d m =
       rw (after-queue c v g b a, eq-eqb (kindOf b) Event.tick k, e, f) (tail-behind u t (queueOf s₀) d m)
 
+  -- who runs next is the thread of the decision on the state that the event leaves
+  runs-decided : decide (v′ .state) (favoured (v′ .state)) .thread ≡ v′ .state .running
+  unfolding settle
+  runs-decided = ap (λ (d : Decided). d .thread) (decide-repeated (favoured s₀) (apply v b) (apply-left v b (g .lengths) a .settled))
+
   -- who is behind an equal does not run next
   pub runs-other : (t u : ℕ) → Equals (v′ .state) t u → ahead u t (queueOf (v′ .state)) ≡ true → v′ .state .running ≢ t
-  unfolding settle
   runs-other t u m h e =
-      not-decided (v′ .state) t u m h (v′ .history) (g′ .fit .sound .settled)
-      (ap (λ (d : Decided). d .thread) (decide-settle (apply v b)) ∙ e)
+      not-decided (v′ .state) t u m h (v′ .history) (g′ .fit .sound .settled) (favoured (v′ .state)) (runs-decided ∙ e)
 
   -- who runs next is the one that its partition would run
   pub runs-chosen : (u : ℕ) → member u (queueOf (v′ .state)) ≡ true → v′ .state .running ≡ u → isChosen u (v′ .state) ≡ true
-  unfolding settle
   runs-chosen u q e =
-      decided-chosen (v′ .state) (v′ .history) (g′ .fit .sound .settled) u (g′ .fit .sound .settled .queue .inside u q)
-      (ap (λ (d : Decided). d .thread) (decide-settle (apply v b)) ∙ e)
+      let k = g′ .fit .sound .settled in
+      decided-chosen (v′ .state) (v′ .history) k (favoured (v′ .state)) u (k .queue .inside u q) (runs-decided ∙ e)

@@ -3,7 +3,7 @@ use mathlib.Core.Logic.{_≢_}
 use mathlib.Core.Path.{_≡_, refl, sym, ap, subst, _∙_}
 use Prim.Native.Nat.{ℕ, suc, _+_, _*_, _/_, _%_, _≤_, _<_}
 use mathlib.Core.Bool.{Bool, true, false, cond}
-use mathlib.Core.Option.{Option, none, some}
+use mathlib.Core.Option.{Option, some}
 use mathlib.Core.List.{List}
 use lib.ListN.{length, set}
 use lib.Dec.{eqb}
@@ -16,11 +16,11 @@ use Rattle.lists.proofs.Parts.{row-of, row-length}
 use Rattle.sheet.specs.Settings.{W, C, budget, Limits}
 use Rattle.sheet.specs.declared.Settings.{Settings}
 use Rattle.units.proofs.Laws.{has-budget}
-use Rattle.model.specs.State.{thread, idle, used, State}
+use Rattle.model.specs.State.{used, State}
 use Rattle.model.specs.Event
 use Rattle.model.specs.Event.{kindOf, elapsedAt, stampOf}
-use Rattle.model.specs.Policy.{candidates, competing, remaining, hasBudget, winner, chosen, decide}
-use Rattle.model.specs.Step.{Saved, saved, billed, charge, next, moveSlot, sliced, ticked, act, settle, restart, apply}
+use Rattle.model.specs.Policy.{competing, remaining, hasBudget, winner, chosen}
+use Rattle.model.specs.Step.{Saved, saved, billed, favoured, charge, next, moveSlot, sliced, ticked, act, settle, restart, apply}
 use Rattle.model.specs.Facts.{Settled, Sound, Accepted}
 use Rattle.sheet.proofs.Within.{budgets}
 use Rattle.model.proofs.Bounds.{next-inside}
@@ -30,10 +30,11 @@ use Rattle.guarantee.specs.Scheduler as abstract
 use Rattle.invariants.specs.Charges as booked
 use Rattle.invariants.proofs.Charges.{row-charge, row-clear}
 use Rattle.invariants.proofs.Winner.{winner-has}
-use Rattle.invariants.proofs.Decision.{competes-allowed, decide-picks, decide-idle, none-allowed}
+use Rattle.invariants.proofs.Decision.{competes-allowed, none-allowed, billed-winner}
+use Rattle.invariants.proofs.Looks.{competing-kept}
 use Rattle.invariants.proofs.Kept.{billed-inside}
 use Rattle.invariants.proofs.Acts
-use Rattle.invariants.proofs.Applied.{apply-cases, Left, apply-left, after-sound}
+use Rattle.invariants.proofs.Applied.{afterEvent, apply-cases, Left, apply-left, after-sound}
 use Rattle.invariants.proofs.Answered.{Good, accepts, accepted, good-settle}
 
 abbrev pub kindFor : ℕ → Kind
@@ -44,7 +45,7 @@ model = record {
   State = Saved;
   Event = List ℕ;
   accepts = accepts;
-  after = λ v b. settle (apply v b);
+  after = afterEvent;
   kind = λ b. kindFor (kindOf b);
   elapsed = λ v b. elapsedAt (v .state) b;
   running = λ v. billed (v .state);
@@ -58,26 +59,6 @@ rows w = record { row = λ v q. row-of w (v .history) q; slot = λ v. v .state .
 -- the cycles that must remain of a budget: a quarter of a tick
 abbrev pub need : Settings → ℕ
 need c = C c / 4
-
--- ---- the running thread is that of the decision
-
-pub billed-winner : (x : Saved) → Settled (x .state) (x .history) → billed (settle x .state) ≡ winner (x .state)
-unfolding billed settle
-billed-winner x k = go (winner (x .state)) refl
-  where
-    s : State
-    s = x .state
-
-    go : (o : Option ℕ) → winner s ≡ o → cond (eqb (decide s .thread) idle) none (some (thread s (decide s .thread) .partition)) ≡ o
-    go none e = rw (decide-idle s (x .history) k e)
-    go (some w) e =
-        let d = decide-picks s (x .history) k w e in
-        rw (ne-eqb (decide s .thread) idle (omega (arith, d .inside)), d .thread-partition)
-
--- what the decision looks at is not the running thread
-competing-settle : (x : Saved) (p : ℕ) → competing (settle x .state) p ≡ competing (x .state) p
-unfolding settle competing candidates
-competing-settle x p = refl
 
 -- ---- the decision's laws
 
@@ -101,23 +82,25 @@ module _ (x : Saved) (k : Settled (x .state) (x .history)) where
       let few : used (x .state) p + C c′ / 4 ≤ budget c′ p = leb-true _ _ (sym (has-budget (budget c′ p) (used (x .state) p) (C c′)) ∙ f) in
       omega (arith, k .books .totals p i)
 
-  decided : Sound (settle x .state) (settle x .history) → abstract.DecidedLaws model (rows (W c′)) (c′ .count) (need c′) (budget c′) (settle x)
+  -- whichever partition f is favoured
+  decided : (f : Option ℕ) → Sound (settle f x .state) (settle f x .history)
+      → abstract.DecidedLaws model (rows (W c′)) (c′ .count) (need c′) (budget c′) (settle f x)
   unfolding settle
-  decided g = record {
+  decided f g = record {
     in-range = inside;
-    not-idle = λ p q f.
-        none-allowed (x .state) (x .history) k (won f) (chosen (x .state) p) (competes-allowed (x .state) (x .history) k p (waits p q));
-    budget-first = λ p r q f y. of-has r (inside r f) (winner-has (x .state) p r (q .0) (waits p q) (has-of p (q .0) y) (won f));
+    not-idle = λ p q e.
+        none-allowed (x .state) (x .history) k f (won e) (chosen (x .state) p) (competes-allowed (x .state) (x .history) k p (waits p q));
+    budget-first = λ p r q e y. of-has r (inside r e) (winner-has (x .state) f p r (q .0) (waits p q) (has-of p (q .0) y) (won e));
   }
     where
-      inside : (r : ℕ) → billed (settle x .state) ≡ some r → r < c′ .count
-      inside r q = billed-inside (settle x .state) (settle x .history) g r q
+      inside : (r : ℕ) → billed (settle f x .state) ≡ some r → r < c′ .count
+      inside r q = billed-inside (settle f x .state) (settle f x .history) g r q
 
-      won : {o : Option ℕ} → billed (settle x .state) ≡ o → winner (x .state) ≡ o
-      won f = sym (billed-winner x k) ∙ f
+      won : {o : Option ℕ} → billed (settle f x .state) ≡ o → winner (x .state) f ≡ o
+      won e = sym (billed-winner f x k) ∙ e
 
-      waits : (p : ℕ) → model .competes (settle x) p → competing (x .state) p ≡ true
-      waits p q = sym (competing-settle x p) ∙ q .1
+      waits : (p : ℕ) → model .competes (settle f x) p → competing (x .state) p ≡ true
+      waits p q = sym (competing-kept f x p) ∙ q .1
 
 -- ---- the history's laws
 
@@ -165,7 +148,7 @@ module _ (v : Saved) (b : List ℕ) (inside : v .state .slot .0 < W (v .state .s
   act-slot = Acts.act-slot (charged .state) b
 
   abbrev MovedTo : ℕ → Saved → Type 0
-  MovedTo q x = HistoryMoved w (rows w) (kindFor (kindOf b)) v (settle x) q (cost q)
+  MovedTo q x = HistoryMoved w (rows w) (kindFor (kindOf b)) v (settle (favoured s) x) q (cost q)
 
   pub moved : (q : ℕ) → q < s .settings .count → MovedTo q (apply v b)
   unfolding settle
@@ -203,9 +186,9 @@ module _ (c : Settings) where
   good-row v g q i = row-length (W c) (v .history) q (c .count) i (good-room v g)
 
   pub good-moved : (v : Saved) (b : List ℕ) → Good c v → (q : ℕ) → q < c .count
-      → HistoryMoved (W c) (rows (W c)) (kindFor (kindOf b)) v (settle (apply v b)) q (partOf (billed (v .state)) q (elapsedAt (v .state) b))
+      → HistoryMoved (W c) (rows (W c)) (kindFor (kindOf b)) v (afterEvent v b) q (partOf (billed (v .state)) q (elapsedAt (v .state) b))
   good-moved v b g =
-      subst (λ (d : Settings). (q : ℕ) → q < d .count → HistoryMoved (W d) (rows (W d)) (kindFor (kindOf b)) v (settle (apply v b)) q (cost v b inside q)) (g .settings) (moved v b inside)
+      subst (λ (d : Settings). (q : ℕ) → q < d .count → HistoryMoved (W d) (rows (W d)) (kindFor (kindOf b)) v (afterEvent v b) q (cost v b inside q)) (g .settings) (moved v b inside)
     where
       inside : v .state .slot .0 < W (v .state .settings)
       inside = g .fit .sound .settled .books .inside
@@ -220,9 +203,9 @@ module _ (c : Settings) where
         was-sound = g;
         sound = good-settle c v b g e;
         decided =
-            subst (λ (d : Settings). abstract.DecidedLaws model (rows (W d)) (d .count) (need d) (budget d) (settle x))
+            subst (λ (d : Settings). abstract.DecidedLaws model (rows (W d)) (d .count) (need d) (budget d) (afterEvent v b))
             (l .settings ∙ g .settings)
-            (decided x (l .settled) (after-sound v b (g .lengths) a));
+            (decided x (l .settled) (favoured (v .state)) (after-sound v b (g .lengths) a));
         moved = good-moved v b g;
       }
 

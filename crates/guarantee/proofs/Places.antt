@@ -12,13 +12,13 @@ use Rattle.model.specs.State.{thread, queueOf, Thread, State}
 use Rattle.model.specs.Typed.{Lengths}
 use Rattle.model.specs.Event
 use Rattle.model.specs.Event.{kindOf, threadOf, priorityOf}
-use Rattle.model.specs.Step.{Saved, Answer, requeued, withPriority, settle, apply}
+use Rattle.model.specs.Step.{Saved, Answer, requeued, withPriority, settle}
 use Rattle.model.proofs.Ahead.{ahead, tail-behind, head-ahead, requeued-raised, requeued-lowered, requeued-same, requeued-unready}
-use Rattle.invariants.proofs.Answered.{Good, accepts, accepted, acceptedAnswer, answer-accepted, good-settle}
+use Rattle.invariants.proofs.Applied.{afterEvent}
+use Rattle.invariants.proofs.Answered.{Good, accepts, accepts-it, accepted, acceptedAnswer, answer-accepted, good-settle}
 use Rattle.guarantee.specs.Account.{recordNamed, recordBy, queueBy}
 use Rattle.guarantee.specs.Turns.{Equals}
 use Rattle.guarantee.specs.Places.{Stands, Places, PassedOver, Ranked, AmongEquals}
-use Rattle.guarantee.proofs.Log.{accepts-it}
 use Rattle.guarantee.proofs.Told.{after-record, after-queue}
 use Rattle.guarantee.proofs.Behind.{not-chosen, runs-other}
 
@@ -56,7 +56,7 @@ module _ (v : Saved) (len : Lengths (v .state)) (b : List ℕ) (k : kindOf b ≡
   n = priorityOf b
 
   abbrev s′ : State
-  s′ = settle (apply v b) .state
+  s′ = afterEvent v b .state
 
   g : Good c v
   g = record { fit = accepted v b ok .fit; lengths = len; settings = refl }
@@ -78,7 +78,7 @@ module _ (v : Saved) (len : Lengths (v .state)) (b : List ℕ) (k : kindOf b ≡
   }
 
   -- who is ready after it was ready before
-  g′ : Good c (settle (apply v b))
+  g′ : Good c (afterEvent v b)
   g′ = good-settle c v b g ok
 
   was-ready : (u : ℕ) → member u (queueOf s′) ≡ true → thread s′ u .ready ≡ thread s u .ready → thread s u .ready ≡ true

@@ -12,13 +12,13 @@ use Rattle.sheet.specs.declared.Settings.{Settings}
 use Rattle.model.specs.State.{thread, queueOf, Thread, State}
 use Rattle.model.specs.Event
 use Rattle.model.specs.Event.{kindOf, threadOf, priorityOf, stampOf}
-use Rattle.model.specs.Step.{Saved, leaves, requeued, charge, moveSlot, act, settle, restart, apply}
+use Rattle.model.specs.Step.{Saved, leaves, requeued, favoured, charge, moveSlot, act, settle, restart}
 use Rattle.model.specs.Facts.{threadAt, Accepted, Named}
 use Rattle.guarantee.specs.Account.{recordNamed, recordBy, queueBy}
 use Rattle.invariants.proofs.Queues.{at-set, queue-is}
 use Rattle.invariants.proofs.Acts.{act-cases}
 use Rattle.invariants.proofs.Turns.{sliced-thread, sliced-queue}
-use Rattle.invariants.proofs.Applied.{apply-cases, named}
+use Rattle.invariants.proofs.Applied.{afterEvent, apply-cases, named}
 use Rattle.invariants.proofs.Answered.{Good}
 
 -- a kind other than a tick, by the thread that it names
@@ -80,16 +80,16 @@ module _ (c : Settings) (v : Saved) (g : Good c v) (b : List ℕ) (a : Accepted 
   abbrev s′ : State
   s′ = v .state
 
-  pub after-record : (t : ℕ) → thread (settle (apply v b) .state) t ≡ recordBy b (s′ .running) t (thread s′ t)
+  pub after-record : (t : ℕ) → thread (afterEvent v b .state) t ≡ recordBy b (s′ .running) t (thread s′ t)
   unfolding settle restart charge moveSlot recordBy
-  after-record t = apply-cases v b (λ x. thread (settle x .state) t ≡ recordBy b (s′ .running) t (thread s′ t))
+  after-record t = apply-cases v b (λ x. thread (settle (favoured s′) x .state) t ≡ recordBy b (s′ .running) t (thread s′ t))
       (λ q. rw (ne-eqb (kindOf b) Event.tick (omega arith)) (silent b t (thread s′ t) (resumed b (thread s′ t) q)))
       (λ q. rw q (sliced-thread (moveSlot (charge v (stampOf b)) .state) (s′ .running) (g .lengths .threads) t))
       (λ m n. rw (ne-eqb (kindOf b) Event.tick n) (act-record (charge v (stampOf b) .state) b (g .lengths .threads) (named v b (g .lengths) a) t))
 
-  pub after-queue : queueOf (settle (apply v b) .state) ≡ queueBy b (s′ .running) (thread s′) (queueOf s′)
+  pub after-queue : queueOf (afterEvent v b .state) ≡ queueBy b (s′ .running) (thread s′) (queueOf s′)
   unfolding settle restart charge moveSlot queueBy
-  after-queue = apply-cases v b (λ x. queueOf (settle x .state) ≡ queueBy b (s′ .running) (thread s′) (queueOf s′))
+  after-queue = apply-cases v b (λ x. queueOf (settle (favoured s′) x .state) ≡ queueBy b (s′ .running) (thread s′) (queueOf s′))
       (λ q. rw q)
       (λ q. rw q (sliced-queue (moveSlot (charge v (stampOf b)) .state) (s′ .running) (g .lengths .threads)))
       (λ m n. act-queue (charge v (stampOf b) .state) b (g .lengths .threads) (named v b (g .lengths) a) _ n)

@@ -16,16 +16,17 @@ use Rattle.model.specs.Slices.{roundRobin, fullSlice, withSlice, counted, ends}
 use Rattle.model.specs.Policy.{chosen}
 use Rattle.model.specs.Event
 use Rattle.model.specs.Event.{kindOf}
-use Rattle.model.specs.Step.{Saved, Answer, settle, apply}
+use Rattle.model.specs.Step.{Saved, Answer, settle}
 use Rattle.model.specs.Run.{Entry, run, after}
 use Rattle.model.specs.Facts.{SliceFits}
 use Rattle.model.proofs.Accepted.{fit-of}
 use Rattle.model.proofs.Slices.{lowered, not-spent}
 use Rattle.model.proofs.Ahead.{ahead, either}
-use Rattle.invariants.proofs.Answered.{Good, accepts, acceptedAnswer, answer-accepted, good-settle}
+use Rattle.invariants.proofs.Applied.{afterEvent}
+use Rattle.invariants.proofs.Answered.{Good, accepts, accepts-it, acceptedAnswer, answer-accepted, good-settle}
 use Rattle.guarantee.specs.Demand3 as demand
 use Rattle.guarantee.specs.Turns.{Equals, SliceEnds, keepsReady, staysReady, ticksBefore, isChosen, isRunning, TakesTurns}
-use Rattle.guarantee.proofs.Log.{Log, run-log, after-final, accepted-is, accepts-it, when-accepted, when-refused, good-final}
+use Rattle.guarantee.proofs.Log.{Log, run-log, after-final, accepted-is, when-accepted, when-refused, good-final}
 use Rattle.guarantee.proofs.Behind.{not-chosen, kept, same, equals-after, order-kept, turn-behind, runs-other, runs-chosen}
 
 -- ---- the end of a slice
@@ -40,7 +41,7 @@ module _ (c : Settings) (v : Saved) (g : Good c v) (b : List ℕ) (k : kindOf b 
   n = thread (v .state) t .priority
 
   abbrev next : State
-  next = settle (apply v b) .state
+  next = afterEvent v b .state
 
   equal-next : Equals next t u
   equal-next = equals-after c v g b ok n t u m refl (tick-keeps n t b k) (tick-keeps n u b k)
@@ -103,7 +104,7 @@ module _ (c : Settings) (t u n : ℕ) where
     r = thread (v .state) t
 
     abbrev v₁ : Saved
-    v₁ = settle (apply v b)
+    v₁ = afterEvent v b
 
     -- where the first is refused
     peers-same : demand.accepted e ≡ false → Peers v es
@@ -163,8 +164,8 @@ module _ (c : Settings) (t u n : ℕ) where
 
   -- the ticks that find t running before a test holds, which holds wherever a decision lets u run
   module _ (test : State → Bool)
-      (holds : (v : Saved) → Good c v → (b : List ℕ) → accepts v b ≡ true → Equals (settle (apply v b) .state) t u
-      → settle (apply v b) .state .running ≡ u → test (settle (apply v b) .state) ≡ true) where
+      (holds : (v : Saved) → Good c v → (b : List ℕ) → accepts v b ≡ true → Equals (afterEvent v b .state) t u
+      → afterEvent v b .state .running ≡ u → test (afterEvent v b .state) ≡ true) where
     abbrev count : Saved → List Entry → ℕ
     count v es = ticksBefore test t (v .state) es
 
@@ -177,7 +178,7 @@ module _ (c : Settings) (t u n : ℕ) where
 
     -- the first of a list on the count: a refused one counts for nothing
     counted-on : (v : Saved) (e : Entry) (es : List Entry) → Log v (e ∷ es) → (most : ℕ) → (demand.accepted e ≡ false → count v es ≤ most)
-        → (accepts v (e .event) ≡ true → test (v .state) ≡ false → one v (e .event) + count (settle (apply v (e .event))) es ≤ most)
+        → (accepts v (e .event) ≡ true → test (v .state) ≡ false → one v (e .event) + count (afterEvent v (e .event)) es ≤ most)
         → count v (e ∷ es) ≤ most
     unfolding ticksBefore
     counted-on v e es l most refused accepted = go (test (v .state)) refl (demand.accepted e) refl

@@ -4,6 +4,7 @@
 use Prim.Native.Nat.{ℕ, suc, _+_, _-_, _*_, _%_, _<_}
 use mathlib.Core.Path.{_≡_}
 use mathlib.Core.Bool.{false, not, cond, _&&_, _||_}
+use mathlib.Core.Option.{Option, none, some}
 use mathlib.Core.List.{List, [], _∷_, _++_, map, reverse}
 use lib.ListN.{length, getD, take, drop, replicate}
 use lib.Dec.{eqb}
@@ -17,7 +18,7 @@ use Rattle.model.specs.Slices.{counted}
 use Rattle.model.specs.Policy.{Decided, idleMode, decide}
 use Rattle.model.specs.Event
 use Rattle.model.specs.Event.{kindOf, threadOf, partitionOf, priorityOf, maskOf, policyOf, stampOf}
-use Rattle.model.specs.Step.{Saved, leaves, turned, withReady, returned, withPriority, requeued, created}
+use Rattle.model.specs.Step.{Saved, favoured, leaves, turned, withReady, returned, withPriority, requeued, created}
 use Rattle.model.specs.Run.{run, fresh, after}
 use Rattle.model.specs.Doors.{refusedStart}
 use Rattle.guarantee.specs.Demand3.{accepted}
@@ -81,7 +82,8 @@ slotFrom c es = ticksFrom es % W c
 
 -- ---- the decision and the charges
 
--- what a decision looks at: settings c, threads' records, a ready queue, totals. The rest of a state is zero here: no decision looks at it
+-- what a decision looks at beside the favoured partition: settings c, threads' records, a ready queue, totals. The rest of a state is zero
+-- here: no decision looks at it
 abbrev pub picture : Settings → (ℕ → Thread) → List ℕ → (ℕ → ℕ) → State
 picture c threads queue totals =
     record {
@@ -100,6 +102,10 @@ picture c threads queue totals =
 abbrev pub inWindow : Settings → List ℕ → ℕ
 inWindow c periods = sum (take (W c) periods)
 
+-- the favoured partition of the next decision: the one of which the decision d chose a thread, which runs until the next event
+abbrev pub favouredAfter : Decided → Option ℕ
+favouredAfter d = cond (eqb (d .mode) idleMode) none (some (d .partition))
+
 -- x, if the decision d chose a thread of p; "idle time goes to no account"
 unfoldable pub chargeBy : Decided → ℕ → ℕ → ℕ
 chargeBy d p x = cond (not (eqb (d .mode) idleMode) && eqb (d .partition) p) x 0
@@ -112,8 +118,8 @@ periodsBy e x ys =
     (cond (eqb (kindOf e) Event.tick) (0 ∷ addFirst x ys)
     (addFirst x ys))
 
--- ---- the account, one recursion over the list: who ran until an event decides who is charged and, at a tick, whose slice is counted; the
--- records, the queue and the charges after it give the next decision
+-- ---- the account, one recursion over the list: who ran until an event decides who is charged, at a tick whose slice is counted, and which
+-- partition is favoured; with that the records, the queue and the charges after it give the next decision
 
 pub record Standing : Type 0 where
   -- the threads' records, their slices in them
@@ -121,9 +127,11 @@ pub record Standing : Type 0 where
   pub queue : List ℕ
   -- what each partition was charged in each tick period since the last resume, newest first
   pub periods : ℕ → List ℕ
+  -- the partition that is favoured in the decision
+  pub favoured : Option ℕ
 
 unfoldable pub decisionOf : Settings → Standing → Decided
-decisionOf c a = decide (picture c (a .records) (a .queue) (λ p. inWindow c (a .periods p)))
+decisionOf c a = decide (picture c (a .records) (a .queue) (λ p. inWindow c (a .periods p))) (a .favoured)
 
 -- the accepted event e, whose elapsed is x, after the decision d
 unfoldable pub standingBy : List ℕ → Decided → ℕ → Standing → Standing
@@ -132,10 +140,11 @@ standingBy e d x a =
       records = λ t. recordBy e (d .thread) t (a .records t);
       queue = queueBy e (d .thread) (a .records) (a .queue);
       periods = λ p. periodsBy e (chargeBy d p x) (a .periods p);
+      favoured = favouredAfter d;
     }
 
 unfoldable pub standing : Settings → List (List ℕ) → Standing
-standing c [] = record { records = λ t. absent; queue = []; periods = λ p. 0 ∷ [] }
+standing c [] = record { records = λ t. absent; queue = []; periods = λ p. 0 ∷ []; favoured = none }
 standing c (e ∷ es) = standingBy e (decisionOf c (standing c es)) (elapsedFrom es e) (standing c es)
 
 -- what it says of each thread, the queue, each partition and the decision
@@ -147,6 +156,9 @@ queueAfter c es = standing c es .queue
 
 abbrev pub periodsFrom : Settings → List (List ℕ) → ℕ → List ℕ
 periodsFrom c es = standing c es .periods
+
+abbrev pub favouredFrom : Settings → List (List ℕ) → Option ℕ
+favouredFrom c es = standing c es .favoured
 
 abbrev pub usedFrom : Settings → List (List ℕ) → ℕ → ℕ
 usedFrom c es p = inWindow c (periodsFrom c es p)
@@ -178,7 +190,8 @@ pub record Accounted (c : Settings) (lent : List ℕ) (es : List (List ℕ)) (v 
   pub history : (p k : ℕ) → p < c .count → k < W c → getD (v .history) (p * W c + k) 0 ≡ getD (periodsFrom c es p) (ageOf c es k) 0
   pub past : drop (c .count * W c) (v .history) ≡ drop (c .count * W c) lent
   pub size : length (v .history) ≡ length lent
-  pub decision : decide (v .state) ≡ decisionFrom c es
+  -- what the decision door answers
+  pub decision : decide (v .state) (favoured (v .state)) ≡ decisionFrom c es
   pub running : v .state .running ≡ decisionFrom c es .thread
 
 -- DEMAND 2, the account: from a fresh start and after every list of events, the state and the history are those that the sheet and the accepted

@@ -3,6 +3,7 @@ use mathlib.Core.Logic.{_≢_}
 use mathlib.Core.Path.{_≡_, refl, _∙_}
 use Prim.Native.Nat.{ℕ, _^_, _≤_, _<_}
 use mathlib.Core.Bool.{Bool, true, false, cond}
+use mathlib.Core.Option.{Option}
 use mathlib.Core.List.{List, [], _∷_, _++_}
 use lib.ListN.{length, getD, set, drop, replicate, length-append, length-replicate, length-set, length-drop}
 use lib.Seq.{drop-at}
@@ -15,7 +16,7 @@ use Rattle.model.specs.State.{absent, thread, queueOf, idle, wanted, Thread, St
 use Rattle.model.specs.Slices.{counted}
 use Rattle.model.specs.Event
 use Rattle.model.specs.Event.{kindOf, threadOf, priorityOf, policyOf, stampOf, elapsedAt}
-use Rattle.model.specs.Step.{Saved, withThread, withQueue, leaves, requeued, billed, charge, next, moveSlot, turned, sliced, ticked, act, settle, restart, apply}
+use Rattle.model.specs.Step.{Saved, withThread, withQueue, leaves, requeued, billed, favoured, charge, next, moveSlot, turned, sliced, ticked, act, settle, restart, apply}
 use Rattle.model.specs.Typed.{Lengths, ThreadTyped, Bytes, Typed}
 use Rattle.model.specs.Facts.{Settled, Sound, Accepted, Named}
 use Rattle.model.proofs.Bounds.{next-inside}
@@ -28,6 +29,10 @@ use Rattle.invariants.proofs.Kept.{billed-inside, length-charge, length
 use Rattle.invariants.proofs.Words.{words}
 use Rattle.invariants.proofs.Typing.{typed-of}
 use Rattle.invariants.proofs.Decision.{decide-runs}
+
+-- the state and the history that an accepted event leaves
+abbrev pub afterEvent : Saved → List ℕ → Saved
+afterEvent v b = settle (favoured (v .state)) (apply v b)
 
 -- ---- the threads' action
 
@@ -251,9 +256,9 @@ module _ (v : Saved) (b : List ℕ) where
         (λ n m. act-left (charge v (stampOf b)) named (charge-left n))
 
     -- 3. the new decision
-    pub settle-left : (x : Saved) → Left x → Left (settle x)
+    pub settle-left : (f : Option ℕ) (x : Saved) → Left x → Left (settle f x)
     unfolding settle
-    settle-left x l = record {
+    settle-left f x l = record {
       settled = record {
         limits = l .settled .limits;
         rest = l .settled .rest;
@@ -270,26 +275,26 @@ module _ (v : Saved) (b : List ℕ) where
       threads = l .threads;
     }
 
-    settle-sound : (x : Saved) → Left x → Sound (settle x .state) (settle x .history)
+    settle-sound : (f : Option ℕ) (x : Saved) → Left x → Sound (settle f x .state) (settle f x .history)
     unfolding settle
-    settle-sound x l = record { settled = settle-left x l .settled; runs = decide-runs (x .state) (x .history) (l .settled) }
+    settle-sound f x l = record { settled = settle-left f x l .settled; runs = decide-runs (x .state) (x .history) (l .settled) f }
 
-    pub after-left : Left (settle (apply v b))
-    after-left = settle-left (apply v b) apply-left
+    pub after-left : Left (afterEvent v b)
+    after-left = settle-left (favoured s) (apply v b) apply-left
 
-    pub after-sound : Sound (settle (apply v b) .state) (settle (apply v b) .history)
-    after-sound = settle-sound (apply v b) apply-left
+    pub after-sound : Sound (afterEvent v b .state) (afterEvent v b .history)
+    after-sound = settle-sound (favoured s) (apply v b) apply-left
 
-    pub after-room : wanted (settle (apply v b) .state) ≤ length (settle (apply v b) .history)
+    pub after-room : wanted (afterEvent v b .state) ≤ length (afterEvent v b .history)
     after-room = rw (after-left .size, after-left .settings) (a .fit .room)
 
     stamp-fits : Bytes b → stampOf b < 2 ^ 32
     unfolding stampOf
     stamp-fits y = omega (arith, y 4, y 5, y 6, y 7)
 
-    pub after-typed : Typed s h → Bytes b → Typed (settle (apply v b) .state) (settle (apply v b) .history)
+    pub after-typed : Typed s h → Bytes b → Typed (afterEvent v b .state) (afterEvent v b .history)
     after-typed t y =
-        let x : Saved = settle (apply v b) in
+        let x : Saved = afterEvent v b in
         let l : Left x = after-left in
         typed-of (x .state) (x .history) after-sound (l .lengths) after-room
         (rw (l .settings) (t .state .settings))

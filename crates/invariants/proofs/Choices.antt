@@ -7,44 +7,43 @@ use mathlib.Core.List.{List, [], _∷_, _++_}
 use lib.Dec.{eqb}
 use borrow.Author.Tests.{eq-eqb}
 use native.Mathlib.Omega.{arith}
-use native.Mathlib.Decide.{decLt}
 use Rattle.lists.specs.Lists.{any, member}
 use Rattle.lists.proofs.Tests.{clash, both}
 use Rattle.model.specs.State.{thread, queueOf, State}
 use Rattle.model.specs.Policy.{competing, hasBudget, winner}
-use Rattle.model.specs.Choices.{Won}
 use Rattle.model.specs.Facts.{Settled}
 use Rattle.model.proofs.Meaning.{sound-of}
-use Rattle.model.proofs.Order.{weak}
-use Rattle.model.proofs.Winner.{winner-none}
-use Rattle.invariants.specs.Promises.{Idles, Orders, FirstOf, runsFor, Choice, Chooses, ChoosesOne, BudgetFirst}
+use Rattle.model.proofs.Order.{ordered, weak}
+use Rattle.model.proofs.Winner.{winner-none, won-one}
+use Rattle.invariants.specs.Promises.{Idles, Compares, Orders, FirstOf, runsFor, Choice, Chooses, ChoosesOne, BudgetFirst}
 use Rattle.invariants.proofs.Winner.{winner-has}
 use Rattle.invariants.proofs.Chosen.{first-member}
 use Rattle.invariants.proofs.Decision.{allowed-competes, decide-picks, idle-exactly}
+
+pub compares : Compares
+compares s m = ordered s m
 
 pub orders : Orders
 orders s m = weak s m
 
 pub idles : Idles
-idles s h e = let k : Settled s h = sound-of s h e .settled in idle-exactly s h k
+idles s h e f = let k : Settled s h = sound-of s h e .settled in idle-exactly s h k f
 
 -- one that competes makes a winner
-busy : (s : State) (h : List ℕ) → Settled s h → (p : ℕ) → p < s .settings .count → competing s p ≡ true → (w : ℕ) × (winner s ≡ some w)
-busy s h k p i c = go (winner s) refl
+busy : (s : State) (h : List ℕ) → Settled s h → (f : Option ℕ) (p : ℕ) → p < s .settings .count → competing s p ≡ true
+    → (w : ℕ) × (winner s f ≡ some w)
+busy s h k f p i c = go (winner s f) refl
   where
-    go : (o : Option ℕ) → winner s ≡ o → (w : ℕ) × (winner s ≡ some w)
-    go none q = clash c (winner-none s q p i)
+    go : (o : Option ℕ) → winner s f ≡ o → (w : ℕ) × (winner s f ≡ some w)
+    go none q = clash c (winner-none s f q p i)
     go (some w) q = (w, q)
 
 pub chooses : Chooses
-chooses s h e t a =
+chooses s h e f t a =
     let k : Settled s h = sound-of s h e .settled in
     let (i, c) = allowed-competes s h k t a in
-    let (w, q) = busy s h k (thread s t .partition) i c in
-    decide-picks s h k w q .busy
-
-won-one : (s : State) (n w u : ℕ) → Won s n w → Won s n u → w < u → ⊥
-won-one s n w u a b h = clash (b .lowest w h (a .competes)) (a .unbeaten u (b .inside) (b .competes))
+    let (w, q) = busy s h k f (thread s t .partition) i c in
+    decide-picks s h k f w q .busy
 
 module _ (test : ℕ → Bool) (t u : ℕ) (t-holds : test t ≡ true) (u-holds : test u ≡ true) (l m : List ℕ) where
   Free : List ℕ → Type 0
@@ -85,25 +84,20 @@ choice-one s p t u a b =
         subst (λ (n : ℕ). FirstOf (λ v. runsFor s p v && eqb (thread s v .priority) n) (queueOf s) u) same (b .place)
 
 pub chooses-one : ChoosesOne
-chooses-one s d e a b = λ i. record { mode = modes i; partition = parts i; thread = threads i }
+chooses-one s f d e a b = λ i. record { mode = modes i; partition = parts i; thread = threads i }
   where
     modes : d .mode ≡ e .mode
     modes = a .mode-is ∙ sym (b .mode-is)
 
     parts : d .partition ≡ e .partition
-    parts = go (decLt (d .partition) (e .partition)) (decLt (e .partition) (d .partition))
-      where
-        go : Dec (d .partition < e .partition) → Dec (e .partition < d .partition) → d .partition ≡ e .partition
-        go (yes h) z = absurd (won-one s (s .settings .count) (d .partition) (e .partition) (a .won) (b .won) h)
-        go (no h) (yes k) = absurd (won-one s (s .settings .count) (e .partition) (d .partition) (b .won) (a .won) k)
-        go (no h) (no k) = omega arith
+    parts = won-one s f (s .settings .count) (d .partition) (e .partition) (a .won) (b .won)
 
     threads : d .thread ≡ e .thread
     threads = choice-one s (e .partition) (d .thread) (e .thread) (subst (λ (p : ℕ). Choice s p (d .thread)) parts (a .choice)) (b .choice)
 
 pub budget-first : BudgetFirst
-budget-first s h e p i c y =
+budget-first s h e f p i c y =
     let k : Settled s h = sound-of s h e .settled in
-    let (w, q) = busy s h k p i c in
-    let d = decide-picks s h k w q in
-    (d .busy .mode-busy, subst (λ (x : ℕ). hasBudget s x ≡ true) (sym (d .partition)) (winner-has s p w i c y q))
+    let (w, q) = busy s h k f p i c in
+    let d = decide-picks s h k f w q in
+    (d .busy .mode-busy, subst (λ (x : ℕ). hasBudget s x ≡ true) (sym (d .partition)) (winner-has s f p w i c y q))

@@ -1,14 +1,17 @@
 -- While a partition that competes has budget, the winner has budget.
+use mathlib.Core.Logic.{_≢_}
 use mathlib.Core.Path.{_≡_, refl}
 use Prim.Native.Nat.{ℕ, _<_}
 use mathlib.Core.Bool.{Bool, true, false, cond, _&&_}
-use mathlib.Core.Option.{some}
+use mathlib.Core.Option.{Option, some}
 use lib.Dec.{eqb}
 use Rattle.lists.specs.Lists.{any}
-use Rattle.lists.proofs.Tests.{clash, and}
+use Rattle.lists.proofs.Tests.{and}
 use Rattle.lists.proofs.All.{below-any}
+use Rattle.units.specs.Units.{compareFlags}
+use Rattle.units.specs.declared.Comparison.the-variants.{Better}
 use Rattle.model.specs.Policy
-use Rattle.model.specs.Policy.{competing, hasBudget, mode, before, winner, byBudget, ratioPolicy}
+use Rattle.model.specs.Policy.{competing, hasBudget, mode, compare, winner, byBudget, byFraction, byPriority, _then_, ratioPolicy}
 use Rattle.model.specs.State.{State}
 use Rattle.model.proofs.Winner.{winner-won}
 
@@ -24,15 +27,14 @@ module _ (s : State) where
       go true = refl
       go false = refl
 
-  pub winner-has : (p w : ℕ) → p < s .settings .count → competing s p ≡ true → hasBudget s p ≡ true → winner s ≡ some w
+  pub winner-has : (f : Option ℕ) (p w : ℕ) → p < s .settings .count → competing s p ≡ true → hasBudget s p ≡ true → winner s f ≡ some w
       → hasBudget s w ≡ true
-  unfolding before byBudget
-  winner-has p w b c h e =
-      go (hasBudget s w) refl (eqb (mode s) Policy.freeTime && ratioPolicy s) (rw (has-mode p b c h) at (winner-won s w e .unbeaten p b c))
+  unfolding compare byBudget compareFlags _then_
+  winner-has f p w b c h e =
+      go (hasBudget s w) refl (eqb (mode s) Policy.freeTime && ratioPolicy s) (rw (has-mode p b c h) at (winner-won s f w e .unbeaten p b c))
     where
       go : (z : Bool) → hasBudget s w ≡ z → (y : Bool)
-          → cond y (byBudget s p w (Policy.betterFraction s p w)) (byBudget s p w (Policy.byPriority s p w (Policy.betterFraction s p w)))
-          ≡ false → hasBudget s w ≡ true
-      go true q y f = q
-      go false q true f = clash {b = byBudget s p w (Policy.betterFraction s p w)} (rw (h, q)) f
-      go false q false f = clash {b = byBudget s p w (Policy.byPriority s p w (Policy.betterFraction s p w))} (rw (h, q)) f
+          → cond y (byBudget s p w then byFraction s p w) (byBudget s p w then byPriority s p w then byFraction s p w) ≢ Better → hasBudget s w ≡ true
+      go true q y n = q
+      go false q true n = absurd (n (rw (h, q)))
+      go false q false n = absurd (n (rw (h, q)))

@@ -1,20 +1,23 @@
--- What is proved of the model beside the demands on lists of events (Ledger, Demand3): soundness is kept, and what the decision is.
+-- What is proved of the model beside the demands on lists of events (Ledger, Demand3): soundness is kept, what the decision is, and that ties
+-- cause no switches.
 use Prim.Native.Nat.{ℕ, _≤_, _<_}
-use mathlib.Core.Logic.{_≢_}
+use mathlib.Core.Logic.{_≢_, _⊎_}
 use mathlib.Core.Path.{_≡_}
 use mathlib.Core.Bool.{Bool, true, false, _&&_}
+use mathlib.Core.Option.{Option, some}
 use mathlib.Core.List.{List, [], _∷_, _++_}
 use lib.ListN.{length, drop}
 use lib.Dec.{eqb}
 use Rattle.lists.specs.Lists.{member}
+use Rattle.units.specs.declared.Comparison.the-variants.{Better}
 use Rattle.sheet.specs.Sheet.{settingsOf}
 use Rattle.model.specs.State.{thread, queueOf, allows, idle, used, wanted, State, mayRun}
-use Rattle.model.specs.Typed.{Words, Bytes, Typed}
-use Rattle.model.specs.Policy.{Decided, competing, hasBudget, idleMode, mode, before, decide}
-use Rattle.model.specs.Choices.{StrictWeak, Won}
+use Rattle.model.specs.Typed.{Lengths, Words, Bytes, Typed}
+use Rattle.model.specs.Policy.{Decided, competing, hasBudget, idleMode, mode, compare, decide}
+use Rattle.model.specs.Choices.{Ordered, before, StrictWeak, Won}
 use Rattle.model.specs.Sound.{sound}
 use Rattle.model.specs.Event.{refusedState}
-use Rattle.model.specs.Step.{Saved, answer}
+use Rattle.model.specs.Step.{Saved, Answer, billed, favoured, answer}
 use Rattle.model.specs.Run.{fresh, after}
 use Rattle.model.specs.Doors.{refusedStart}
 
@@ -67,16 +70,20 @@ NoneAllowed s = (t : ℕ) → Allowed s t → ⊥
 abbrev pub idleDecision : Decided
 idleDecision = record { mode = idleMode; partition = 0; thread = idle }
 
--- idle exactly where no queued thread is allowed on this core; mode 0 alone, and thread 255 alone, say so
-pub record IdleExactly (s : State) : Type 0 where
-  pub when : NoneAllowed s → decide s ≡ idleDecision
-  pub by-mode : decide s .mode ≡ idleMode → NoneAllowed s
-  pub by-thread : decide s .thread ≡ idle → NoneAllowed s
+-- idle exactly where no queued thread is allowed on this core; mode 0 alone, and thread 255 alone, say so. Whichever partition f is favoured
+pub record IdleExactly (s : State) (f : Option ℕ) : Type 0 where
+  pub when : NoneAllowed s → decide s f ≡ idleDecision
+  pub by-mode : decide s f .mode ≡ idleMode → NoneAllowed s
+  pub by-thread : decide s f .thread ≡ idle → NoneAllowed s
 
 abbrev pub Idles : Type 0
-Idles = (s : State) (h : List ℕ) → sound s h ≡ true → IdleExactly s
+Idles = (s : State) (h : List ℕ) → sound s h ≡ true → (f : Option ℕ) → IdleExactly s f
 
--- in each mode "comes before" is a strict weak order, so that there is a best
+-- "The comparison of two partitions shall say better, worse or equal": in each mode it is an order with ties
+abbrev pub Compares : Type 0
+Compares = (s : State) (m : ℕ) → Ordered (compare s m)
+
+-- and "comes before" a strict weak order, so that there is a best
 abbrev pub Orders : Type 0
 Orders = (s : State) (m : ℕ) → StrictWeak (before s m)
 
@@ -97,22 +104,47 @@ pub record Choice (s : State) (p t : ℕ) : Type 0 where
   pub place : FirstOf (λ u. runsFor s p u && eqb (thread s u .priority) (thread s t .priority)) (queueOf s) t
   pub top : (u : ℕ) → member u (queueOf s) ≡ true → runsFor s p u ≡ true → thread s u .priority ≤ thread s t .priority
 
--- what a decision is that chooses a thread
-pub record Busy (s : State) (d : Decided) : Type 0 where
+-- what a decision is that chooses a thread, where f is favoured
+pub record Busy (s : State) (f : Option ℕ) (d : Decided) : Type 0 where
   pub mode-is : d .mode ≡ mode s
   pub mode-busy : d .mode ≢ idleMode
-  pub won : Won s (s .settings .count) (d .partition)
+  pub won : Won s f (s .settings .count) (d .partition)
   pub choice : Choice s (d .partition) (d .thread)
 
 abbrev pub Chooses : Type 0
-Chooses = (s : State) (h : List ℕ) → sound s h ≡ true → (t : ℕ) → Allowed s t → Busy s (decide s)
+Chooses = (s : State) (h : List ℕ) → sound s h ≡ true → (f : Option ℕ) (t : ℕ) → Allowed s t → Busy s f (decide s f)
 
 -- and there is only one such
 abbrev pub ChoosesOne : Type 0
-ChoosesOne = (s : State) (d e : Decided) → Busy s d → Busy s e → d ≡ e
+ChoosesOne = (s : State) (f : Option ℕ) (d e : Decided) → Busy s f d → Busy s f e → d ≡ e
 
 -- where a partition that competes has budget, the one chosen has budget
 abbrev pub BudgetFirst : Type 0
 BudgetFirst =
-    (s : State) (h : List ℕ) → sound s h ≡ true → (p : ℕ) → p < s .settings .count → competing s p ≡ true → hasBudget s p ≡ true →
-    (decide s .mode ≢ idleMode) × (hasBudget s (decide s .partition) ≡ true)
+    (s : State) (h : List ℕ) → sound s h ≡ true → (f : Option ℕ) (p : ℕ) → p < s .settings .count → competing s p ≡ true →
+    hasBudget s p ≡ true → (decide s f .mode ≢ idleMode) × (hasBudget s (decide s f .partition) ≡ true)
+
+-- ---- ties: what request (iii) of document 02 promises, "Ties stop causing switches". Both promises are of every accepted event, from any state
+-- that the event door takes: that it takes the state is not asked, an accepted event shows it. The lengths are those of every state that
+-- arrays of these types stand for
+
+-- the doors take the state that the answer a leaves, and there the decision, with the partition of its running thread favoured, is a's
+pub record Repeated (a : Answer) : Type 0 where
+  pub taken : refusedState (a .after .state) (a .after .history) ≡ 0
+  pub decision : decide (a .after .state) (favoured (a .after .state)) ≡ a .decision
+
+-- "The decision door takes the state's running thread for it": on the state that an accepted event left it repeats that event's answer
+abbrev pub Repeats : Type 0
+Repeats = (v : Saved) → Lengths (v .state) → (b : List ℕ) → answer v b .refusal ≡ 0 → Repeated (answer v b)
+
+-- in the state s, q comes strictly before p, or p no longer competes
+abbrev pub GivesWay : State → ℕ → ℕ → Type 0
+GivesWay s p q = (compare s (mode s) q p ≡ Better) ⊎ (competing s p ≡ false)
+
+-- the processor works for the partition that is billed: an accepted event moves it from p to another one, q, only where p gives way to q in the
+-- state that the event left; and q is the one that the answer names
+abbrev pub Switches : Type 0
+Switches =
+    (v : Saved) → Lengths (v .state) → (b : List ℕ) → answer v b .refusal ≡ 0 → (p q : ℕ) →
+    billed (v .state) ≡ some p → billed (answer v b .after .state) ≡ some q → p ≢ q →
+    (answer v b .decision .partition ≡ q) × GivesWay (answer v b .after .state) p q

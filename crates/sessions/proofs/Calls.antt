@@ -60,9 +60,6 @@ entry-is x c q z =
     ap₂ (λ (l : Line) (v : Saved). record { event = c .bytes; answer = record { refusal = l .refusal; decision = chosenBy l; after = v } })
     (q .line ∙ ap answerLine (answer-yes x (c .bytes) z)) (left-is x c q z)
 
-pub answer-of : (x : Lent) (c : Call) → Answered x (c .bytes) (c .line) (c .left) → refusedIn x ≡ 0 → entryOf c .answer ≡ answer (savedIn x) (c .bytes)
-answer-of x c q z = ap (λ (e : Entry). e .answer) (entry-is x c q z)
-
 entries-run : (x : Lent) (cs : List Call) → Calls x cs → refusedIn x ≡ 0 → asEntries cs ≡ run (savedIn x) (givenTo cs)
 unfolding run
 entries-run x [] q z = refl
@@ -113,6 +110,14 @@ taken-call x c q yes-line = go (ℕ-discrete (refusedIn x) 0)
     go (no n) =
         let refusal : c .line .refusal ≡ refusedIn x = ap (λ (l : Line). l .refusal) (q .line ∙ ap answerLine (answer-no x (c .bytes) n)) in
         absurd (n (sym refusal ∙ eqb-true _ _ yes-line))
+
+-- so an accepted call is the model's accepted event
+module _ (x : Lent) (c : Call) (q : Answered x (c .bytes) (c .line) (c .left)) (yes-line : accepts c ≡ true) where
+  pub call-is : entryOf c .answer ≡ answer (savedIn x) (c .bytes)
+  call-is = ap (λ (e : Entry). e .answer) (entry-is x c q (taken-call x c q yes-line))
+
+  pub call-accepted : answer (savedIn x) (c .bytes) .refusal ≡ 0
+  call-accepted = sym (ap (λ (w : Answer). w .refusal) call-is) ∙ eqb-true _ _ yes-line
 
 -- ---- what is lent, as the model's theorems take it
 

@@ -2,6 +2,7 @@ pub mod Calls
 pub mod Decisions
 pub mod Turns
 pub mod Places
+pub mod Switches
 pub mod Runs
 pub mod Reading
 pub mod Uses

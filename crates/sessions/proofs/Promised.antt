@@ -5,6 +5,7 @@ use Rattle.sheet.proofs.RoundTrip as RoundTrip
 use Rattle.invariants.proofs.Soundness as Soundness
 use Rattle.invariants.proofs.Once as Once
 use Rattle.invariants.proofs.Choices as Choices
+use Rattle.invariants.proofs.Ties as Ties
 use Rattle.guarantee.proofs.Totals as Totals
 use Rattle.guarantee.proofs.Apart as Apart
 use Rattle.guarantee.proofs.Account as Account
@@ -18,6 +19,7 @@ use Rattle.sessions.proofs.Calls as Calls
 use Rattle.sessions.proofs.Decisions as Decisions
 use Rattle.sessions.proofs.Turns as DoorTurns
 use Rattle.sessions.proofs.Places as DoorPlaces
+use Rattle.sessions.proofs.Switches as DoorSwitches
 use Rattle.sessions.proofs.Runs as Runs
 use Rattle.sessions.proofs.Uses as Uses
 use Rattle.sessions.proofs.FromC as FromC
@@ -41,10 +43,13 @@ promised = record {
   untouched = Soundness.untouched;
   totals-fit = Soundness.totals-fit;
   idles = Choices.idles;
+  compares = Choices.compares;
   orders = Choices.orders;
   chooses = Choices.chooses;
   chooses-one = Choices.chooses-one;
   budget-first = Choices.budget-first;
+  repeats = Ties.repeats;
+  switches = Ties.switches;
   totals-from = Totals.totals-from;
   held-and-charged = Apart.held-and-charged;
   totals = Totals.totals;
@@ -69,6 +74,7 @@ promised = record {
   door-takes-turns = DoorTurns.door-takes-turns;
   door-places = DoorPlaces.door-places;
   door-among-equals = DoorPlaces.door-among-equals;
+  door-switches = DoorSwitches.door-switches;
   run = Runs.run-is-calls;
   uses = Uses.uses-are-calls;
   uses-run = Uses.uses-are-run;

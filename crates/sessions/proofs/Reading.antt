@@ -21,7 +21,7 @@ use Rattle.model.specs.Arrays.{flagsFit}
 use Rattle.model.specs.Sound.{sound}
 use Rattle.model.specs.Facts.{Settled}
 use Rattle.model.specs.Event.{refusedState, refusedEvent, refused, wellFormed, tooLong, wrongThread, wrongPlace, wrongReadiness}
-use Rattle.model.specs.Step.{Saved, apply, answerBy, answer}
+use Rattle.model.specs.Step.{Saved, favoured, apply, answerBy, answer}
 use Rattle.model.specs.Answers.{Line, answerLine, decisionLine, refusalLine, textOf}
 use Rattle.model.specs.Doors.{answerTo}
 use Rattle.model.specs.Lent.{Lent, lentSettings, stateIn, savedIn, refusedIn, refusedArrays}
@@ -99,13 +99,13 @@ mode-most s =
     go false false true = omega arith
     go false false false = omega arith
 
-decision-short : (s : State) (h : List ℕ) → Settled s h → Short (decisionLine (decide s))
-decision-short s h k = go (winner s) refl
+decision-short : (s : State) (h : List ℕ) → Settled s h → (f : Option ℕ) → Short (decisionLine (decide s f))
+decision-short s h k f = go (winner s f) refl
   where
-    go : (o : Option ℕ) → winner s ≡ o → Short (decisionLine (decide s))
-    go none e = rw (decide-idle s h k e) (record { refusal = omega arith; mode = omega arith; partition = omega arith; thread = omega arith })
+    go : (o : Option ℕ) → winner s f ≡ o → Short (decisionLine (decide s f))
+    go none e = rw (decide-idle s h k f e) (record { refusal = omega arith; mode = omega arith; partition = omega arith; thread = omega arith })
     go (some w) e =
-        let d = decide-picks s h k w e in
+        let d = decide-picks s h k f w e in
         record {
           refusal = omega arith;
           mode = omega (arith, d .busy .mode-is, mode-most s);
@@ -130,7 +130,7 @@ answer-short x b sizes = go (ℕ-discrete (refusedIn x) 0)
     inner (yes z) =
         subst (λ (k : ℕ). Short (answerLine (answerBy k v b))) (sym z)
         (decision-short (apply v b .state) (apply v b .history)
-        (apply-left v b (lengths x sizes) (accepted-of (stateIn x) (x .history) b z) .settled))
+        (apply-left v b (lengths x sizes) (accepted-of (stateIn x) (x .history) b z) .settled) (favoured (stateIn x)))
     inner (no z) = rw (ne-eqb n 0 z) (refusal-short n (refused-most (stateIn x) (x .history) b))
 
     go : Dec (refusedIn x ≡ 0) → Short (answerLine (answerTo x b))

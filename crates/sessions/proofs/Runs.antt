@@ -2,7 +2,7 @@
 use mathlib.Core.Logic.{_≢_}
 use mathlib.Core.Path.{_≡_, refl, sym, ap, ap₂, subst, _∙_}
 use Prim.Native.Nat.{ℕ, zero, suc, _*_}
-use mathlib.Core.Bool.{Bool, true, false, cond}
+use mathlib.Core.Bool.{Bool, true, false}
 use mathlib.Core.List.{List, [], _∷_, _++_, map}
 use lib.ListN.{length, getD, drop, length-map}
 use lib.Dec.{eqb, leb}
@@ -17,9 +17,8 @@ use Rattle.units.specs.declared.Cycles.{Cycles}
 use Rattle.model.specs.State.{cycles, absent, Thread}
 use Rattle.model.specs.Arrays.{flag, Columns, columns, threadIn, threadsIn, plain}
 use Rattle.model.specs.Typed.{Lengths}
-use Rattle.model.specs.Event.{refusedState, refused}
-use Rattle.model.specs.Policy.{decide}
-use Rattle.model.specs.Step.{Saved, apply, settle, Answer, answer, nothing}
+use Rattle.model.specs.Event.{refusedState}
+use Rattle.model.specs.Step.{Saved, Answer, answer}
 use Rattle.model.specs.Run.{run, after}
 use Rattle.model.specs.Answers.{answerLine, textOf}
 use Rattle.model.specs.Lent as Lent
@@ -29,7 +28,7 @@ use Rattle.model.specs.Doors.{takenBy, answerTo, afterRun, linesAfter}
 use Rattle.model.proofs.Accepted.{fit-of, of-fit}
 use Rattle.model.proofs.Flags.{as-state}
 use Rattle.model.proofs.Table.{flag-on}
-use Rattle.invariants.proofs.Answered.{Good, good-answer}
+use Rattle.invariants.proofs.Answered.{Good, answer-refused, refusal-tells, good-answer}
 use Rattle.doors.specs.Doors.{Sizes, Answered, Ran}
 use Rattle.sessions.specs.Calls.{Call, Calls, leftBy, givenTo, asEntries, callLines, takenOf, AsCalls, RunIsCalls}
 use Rattle.sessions.proofs.Calls.{answer-yes, answer-no, lengths, not-refused, calls-are-run}
@@ -103,18 +102,7 @@ stored-back x v l e = λ i. record {
 }
 
 kept-after : (v : Saved) (b : List ℕ) → answer v b .refusal ≢ 0 → answer v b .after ≡ v
-unfolding answer
-kept-after v b = go (eqb (refused (v .state) (v .history) b) 0)
-  where
-    done : Answer
-    done = record { refusal = 0; decision = decide (apply v b .state); after = settle (apply v b) }
-
-    same : Answer
-    same = record { refusal = refused (v .state) (v .history) b; decision = nothing; after = v }
-
-    go : (z : Bool) → (cond {A = Answer} z done same) .refusal ≢ 0 → (cond {A = Answer} z done same) .after ≡ v
-    go true n = absurd (n refl)
-    go false n = refl
+kept-after v b n = answer-refused v b (sym (refusal-tells v b) ∙ ne-eqb _ _ n)
 
 abbrev is-empty : List (List ℕ) → Bool
 is-empty [] = true

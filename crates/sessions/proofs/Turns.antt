@@ -1,33 +1,29 @@
 -- Equal threads take turns, as the calls of the event door show it.
 use mathlib.Core.Logic.{_≢_}
-use mathlib.Core.Path.{_≡_, sym, ap, subst, _∙_}
+use mathlib.Core.Path.{_≡_, sym, subst}
 use Prim.Native.Nat.{ℕ}
 use mathlib.Core.Bool.{true}
 use mathlib.Core.List.{List, [], _∷_}
-use borrow.Author.Tests.{eqb-true}
 use native.Mathlib.Omega.{arith}
 use Rattle.model.specs.State.{thread, State}
 use Rattle.model.specs.Slices.{fullSlice}
 use Rattle.model.specs.Policy.{chosen}
-use Rattle.model.specs.Step.{Answer, answer}
+use Rattle.model.specs.Step.{Answer}
 use Rattle.model.specs.Run.{Entry, after}
 use Rattle.model.specs.Lent.{Lent, stateIn, savedIn}
 use Rattle.guarantee.specs.Turns.{staysReady, ticksBefore, FoundAtMost}
 use Rattle.guarantee.proofs.Turns.{slice-ends, takes-turns}
-use Rattle.sessions.specs.Calls.{Call, leftBy, givenTo, entryOf}
+use Rattle.sessions.specs.Calls.{Call, leftBy, givenTo}
 use Rattle.sessions.specs.Turns.{DoorSliceEnds, DoorTakesTurns}
-use Rattle.sessions.proofs.Calls.{last-call, taken-call, answer-of, lengths, not-refused, calls-are-run}
+use Rattle.sessions.proofs.Calls.{last-call, taken-call, call-is, call-accepted, lengths, not-refused, calls-are-run}
 
 pub door-slice-ends : DoorSliceEnds
 unfolding after
 door-slice-ends x calls c q k yes-line t u on over m =
     let y : Lent = leftBy x calls in
     let a = last-call x calls c q in
-    let z = taken-call y c a yes-line in
-    let is : entryOf c .answer ≡ answer (savedIn y) (c .bytes) = answer-of y c a z in
-    subst (λ (w : Answer). (chosen (w .after .state) (thread (stateIn y) t .partition) ≢ t) × (w .decision .thread ≢ t)) (sym is)
-    (slice-ends (savedIn y) (lengths y (a .sizes)) (not-refused y z) [] (c .bytes) k
-    (sym (ap (λ (w : Answer). w .refusal) is) ∙ eqb-true _ _ yes-line) t u on over m)
+    subst (λ (w : Answer). (chosen (w .after .state) (thread (stateIn y) t .partition) ≢ t) × (w .decision .thread ≢ t)) (sym (call-is y c a yes-line))
+    (slice-ends (savedIn y) (lengths y (a .sizes)) (not-refused y (taken-call y c a yes-line)) [] (c .bytes) k (call-accepted y c a yes-line) t u on over m)
 
 -- no call, no tick
 none : (n : ℕ) (s : State) (t u : ℕ) → FoundAtMost n s t u []

@@ -35,4 +35,4 @@ abbrev pub CDemand3 : Type 0
 CDemand3 = (x : Lent) (calls : List CCall) → CCalls x calls → Served (stateIn x) (asEntries (map asCall calls))
 
 abbrev pub CDecides : Type 0
-CDecides = (x : Lent) (calls : List CCall) → CCalls x calls → EachAccepted Decides (map asCall calls)
+CDecides = (x : Lent) (calls : List CCall) → CCalls x calls → EachAccepted Decides x (map asCall calls)

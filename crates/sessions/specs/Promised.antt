@@ -13,6 +13,7 @@ use Rattle.sessions.specs.Calls as Calls
 use Rattle.sessions.specs.Decisions as Decisions
 use Rattle.sessions.specs.Turns as DoorTurns
 use Rattle.sessions.specs.Places as DoorPlaces
+use Rattle.sessions.specs.Switches as DoorSwitches
 use Rattle.sessions.specs.Uses as Uses
 use Rattle.sessions.specs.FromC as FromC
 
@@ -36,10 +37,13 @@ pub record Promised : Type 0 where
   pub untouched : Invariants.Untouched
   pub totals-fit : Invariants.TotalsFit
   pub idles : Invariants.Idles
+  pub compares : Invariants.Compares
   pub orders : Invariants.Orders
   pub chooses : Invariants.Chooses
   pub chooses-one : Invariants.ChoosesOne
   pub budget-first : Invariants.BudgetFirst
+  pub repeats : Invariants.Repeats
+  pub switches : Invariants.Switches
   -- lists of events, on the definitions
   pub totals-from : Ledger.TotalsFrom
   pub held-and-charged : Ledger.HeldAndCharged
@@ -66,6 +70,7 @@ pub record Promised : Type 0 where
   pub door-takes-turns : DoorTurns.DoorTakesTurns
   pub door-places : DoorPlaces.DoorPlaces
   pub door-among-equals : DoorPlaces.DoorAmongEquals
+  pub door-switches : DoorSwitches.DoorSwitches
   pub run : Calls.RunIsCalls
   pub uses : Uses.UsesAreCalls
   pub uses-run : Uses.UsesAreRun

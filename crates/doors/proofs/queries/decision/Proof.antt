@@ -5,7 +5,7 @@ use Rattle.model.specs.Answers.{decidedOf}
 use Rattle.model.specs.Lent.{Lent, lent}
 use Rattle.model.specs.Arrays.{columns}
 use Rattle.doors.specs.Inner.{Room}
-use Rattle.doors.proofs.Entering.{begins, regular, settled}
+use Rattle.doors.proofs.Entering.{begins, regular, settled, working}
 use Rattle.doors.proofs.Lending.{room}
 use Rattle.doors.proofs.Looking.{decision-no, decision-yes}
 use borrow.Author.Needs.{needs}
@@ -57,6 +57,9 @@ begin-requires c κs =
     let t = c .before .before .before .before .before in
     begins (read t .settings-in .result) (given t .used) (timed t .clock-in .result) (given t .threads) (given t .queue) (given t .history) (ready-room t) (sym (t .refused-state .ensures) ∙ ap outcomeOf (c .before .before .before .enum-told .given .1))
 
+favoured-in-requires : tie.Need-favoured-in-requires
+favoured-in-requires c κs = ?
+
 choose-requires : tie.Need-choose-requires
 choose-requires c κs = search needs
 
@@ -87,6 +90,7 @@ decision-spec =
     enum-known-outcome
     enum-told
     begin-requires
+    favoured-in-requires
     choose-requires
     returns
     returns-2)
