@@ -79,9 +79,7 @@ pub fn decision(
                 &mut firsts,
             );
             let favoured = kept::favoured_in(partitions, c.running);
-            Verdict::Decided(
-                kept::choose(s, used, &budgets, &tops, &firsts, sets, favoured),
-            )
+            Verdict::Decided(kept::choose(s, used, &budgets, &tops, &firsts, sets, favoured))
         }
     }
 }

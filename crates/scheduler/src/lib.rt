@@ -74,15 +74,7 @@ fn accept(
         event,
     );
     let after = d.sets;
-    let decision = kept::choose(
-        settings,
-        used,
-        budgets,
-        tops,
-        firsts,
-        after,
-        favoured,
-    );
+    let decision = kept::choose(settings, used, budgets, tops, firsts, after, favoured);
     let running = decision.thread as u32;
     let k = d.clock;
     let slot = k.slot;
