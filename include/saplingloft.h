@@ -32,7 +32,8 @@
 #include <stdint.h>
 
 /* Of the state and of the calls. Another number means that a saved state of this one cannot be used. Version 2 has time slices: `policies` and
- * `slices` in the state and in the library's own functions, and `policy` at the end of struct saplingloft_record; 0 is what version 1 did. */
+ * `slices` in the state and in the library's own functions, and `policy` at the end of struct saplingloft_record; 0 is what version 1 did. A state of
+ * version 2 is taken as it stands, also one that was saved before set priority moved threads, or before a partition was favoured in ties. */
 #define SAPLINGLOFT_VERSION 2
 
 enum {
@@ -66,7 +67,10 @@ enum saplingloft_refusal {
 };
 
 /* How a decision was made. A partition competes while one of its ready threads may run on this core; it has budget while at least a quarter of a tick
- * remains of its budget. */
+ * remains of its budget. Of the partitions that are tied for best the favoured one wins, if it is one of them: the one that the thread running until
+ * the event worked for when the event came, also where the event is a resume, or blocks or ends that thread. Otherwise, and where the processor
+ * idled, the lowest number wins. So an event takes the processor from a partition only where another one comes strictly before it, or where it no
+ * longer competes. */
 enum saplingloft_mode {
     SAPLINGLOFT_MODE_IDLE = 0,      /* no partition competes */
     SAPLINGLOFT_MODE_FREE_TIME = 1, /* some partition with a share does not compete */
@@ -258,7 +262,8 @@ static inline struct saplingloft_progress saplingloft_run(struct saplingloft_sta
     return progress;
 }
 
-/* The decision that the rules give for a state, which stays as it is (refusals 7 and 8): whether a saved state can be used, and who runs in it. */
+/* The decision that the rules give for a state, which stays as it is (refusals 7 and 8): whether a saved state can be used, and who runs in it. The
+ * favoured partition is that of the state's running thread, so that on what an accepted event left this is its answer again. */
 static inline struct saplingloft_answer saplingloft_decision(const struct saplingloft_state *state, const uint32_t *history, size_t history_length)
 {
     return saplingloft_unpack(saplingloft_lent_decision(SAPLINGLOFT_PARTS(state), history, history_length));

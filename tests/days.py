@@ -1,8 +1,8 @@
 #!/usr/bin/env python3
 """tools/day: its numbers are those of document 01's words, on the paper's run, on runs of another scheduler and on days made here; each event stands
-beside the desk's own line; refusals name their line; what starved is named, and what is not promised; a slice that ended, and what a new priority did
-to the thread's place in the line, are told as document 02, (i) and (ii), has them; whatever is in the folder is told in a sentence; the README shows
-what the tool prints; and where the program says something else than the rules, the tool says so.
+beside the desk's own line; refusals name their line; what starved is named, and what is not promised; a slice that ended, what a new priority did to
+the thread's place in the line, and who won a tie and why, are told as document 02, (i) to (iii), has them; whatever is in the folder is told in a
+sentence; the README shows what the tool prints; and where the program says something else than the rules, the tool says so.
 """
 import random
 import re
@@ -13,7 +13,7 @@ import tempfile
 from pathlib import Path
 
 from expecting import Expecting
-from folders import ROOT, VECTORS, WORKED_SHEET, WORKED_TEXT, Judged, desk_lines, fill, places, random_day, sheet_of, show, slices, table
+from folders import ROOT, VECTORS, WORKED_SHEET, WORKED_TEXT, Judged, desk_lines, fill, places, random_day, sheet_of, show, slices, table, ties
 
 sys.path.insert(0, str(ROOT / "tools"))
 from lib import programs, records, replay, sheets, why
@@ -255,6 +255,73 @@ def places_told(folder, seed):
     return decisions(f"places of seed {seed}", sheet, data, lines), [did[0] for did in found.values()]
 
 
+# The example of ties, by hand from document 02, (iii): the thread that runs after each event. All priorities and budgets are equal, so that who has
+# used less comes first.
+TIES = (
+    # created; the screen is ready, then tracking; eight ticks, after which each of the two has run for 4,000 cycles
+    [*5 * [255], 3, 3, 0, 0, 3, 3, 0, 0, 3, 3]
+    # the screen's second thread is ready, its first one ends; three ticks; a resume; the logger and the radio are ready
+    + [3, 4, 0, 0, 4, 4, 4, 4]
+    # the screen blocks; three ticks, after which each of the other three has run for 1,000 cycles; the logger is raised and lowered
+    + [0, 1, 2, 2, 1, 1]
+    # all block, and a tick; the radio is ready, the logger, the logger again, which is refused, and tracking; a tick, 500 cycles later
+    + [1, 2, 255, 255, 2, 2, 0, 2, 0]
+)
+# the numbers of the events after which several jobs are tied for best, where the one that ran is one of them, and where it is not
+TIES_STAY, TIES_LOWEST = {7, 9, 11, 13, 15, 16, 17, 19, 21, 22, 23, 27, 29, 30, 35, 37}, {24, 25, 38}
+STAYS, LOWEST = "a tie, and it stays", "a tie, and it has the lowest number"
+TIE_OF_OTHERS = "a tie without the favoured job, so the lower number goes first"
+
+
+def ties_shown():
+    """Jobs that tie: the one that ran stays, and that is told beside the event, and by --at, and so is why the lowest number won elsewhere."""
+    example = ROOT / "examples/ties"
+    done = show(example)
+    rows = re.findall(r"^ +(\d+)  \d\d \d \d\d (\d\d\d)  .*?(?:; (a tie, [a-z ]+).*)?$", done.stdout, re.M)
+    expect([int(thread) for _, thread, _ in rows] == TIES, f"the threads of the example of ties are {[int(thread) for _, thread, _ in rows]}")
+    said = {int(number): words for number, _, words in rows if words}
+    expect(said == {**{n: STAYS for n in TIES_STAY}, **{n: LOWEST for n in TIES_LOWEST}}, f"of the example's ties is said {said}")
+    has(done, "\n       29  00 1 01 001  903000 priority 1 to 10 ", "; a tie, and it stays; lowered, thread 1 went to the head\n",
+        "REFUSED (13), line 47 of day.txt: thread 1 is ready already\n")
+    expect(done.returncode == 1 and [row[1] for row in table(done.stdout).values()] == ["7,000", "1,000", "1,500", "5,000"],
+           f"status {done.returncode}, {table(done.stdout)}")
+    # the screen's running thread ends with the event, and its job is favoured all the same
+    has(show(example, "--at", "17"), "\nfavoured in a tie: screen, which ran until this event\n"
+        "screen before tracking: a tie, and screen is favoured: it ran, and stays\nthread 4 runs: ")
+    has(show(example, "--at", "23"), "screen before tracking: a tie, and screen is favoured: it ran, and stays\n"
+        "screen before logger: a tie, and screen is favoured: it ran, and stays\n"
+        "screen before radio: a tie, and screen is favoured: it ran, and stays\n")
+    has(show(example, "--at", "24"), "\nfavoured in a tie: screen, which ran until this event\n"
+        "tracking before logger: a tie without the favoured job, so the lower number goes first\n"
+        "tracking before radio: a tie without the favoured job, so the lower number goes first\n")
+    has(show(example, "--at", "25"), "\nfavoured in a tie: tracking, which ran until this event\n"
+        "logger before tracking: 0 of 25,000 is a smaller fraction than 1,000 of 25,000\n"
+        "logger before radio: a tie without the favoured job, so the lower number goes first\n")
+    has(show(example, "--at", "28"), "\nlogger before tracking: top priority 11 is higher than 10\n")
+    has(show(example, "--at", "34"), "\nfavoured in a tie: nobody, because the processor idled until this event\n"
+        "radio is the only one that competes\n")
+    has(show(example, "--at", "36"), "nothing is changed by it, and the decision before it stands:\n",
+        "\nfavoured in a tie: radio, which ran until the last accepted event\nradio before logger: a tie, and radio is favoured: it ran, and stays\n")
+    part = (ROOT / "README.md").read_text().split("## Ties")[1].split("\n## ")[0]
+    shown = [line[4:] for line in part.splitlines() if line.startswith("    ")]
+    expect(len(shown) > 3 and all(line in done.stdout.splitlines() for line in shown), "the README shows other ties than the example")
+
+
+def ties_told(folder, seed):
+    """On a day of one priority, in which jobs have often used the same or have no budget, each event after which several are tied for best says so,
+    and whether the one that ran stays; no other event does."""
+    shares, policy = ((25, 25, 25, 25), (50, 0, 50, 0))[seed % 2], seed // 2 % 2
+    sheet, data = sheet_of(3, 400, shares, policy), random_day(seed, 3, 400, 4, 8, 120, (10,), (0, 1), 100)
+    lines = desk_lines(fill(folder, sheet, data=data), data)
+    rows = re.findall(r"^ +(\d+)  .*; (a tie, [a-z ]+)(?:;.*)?$", show(folder).stdout, re.M)
+    found = {n: (ran, best) for n, (line, (ran, best)) in enumerate(zip(lines, ties(sheet, data, lines)), 1) if line[:2] == b"00" and len(best) > 1}
+    wanted = {n: STAYS if ran in best else LOWEST for n, (ran, best) in found.items()}
+    said = {int(number): words for number, words in rows}
+    expect(said == wanted, f"seed {seed}: said of ties is {said}, and by the paper it is {wanted}")
+    # a tie that the lowest number wins because it ran shows nothing
+    return decisions(f"ties of seed {seed}", sheet, data, lines), [wanted[n] for n, (ran, best) in found.items() if ran != best[0]]
+
+
 def statuses(folder):
     """What is bad usage, what is refused, and what is in the folder."""
     good = fill(folder / "good", WORKED_SHEET, "0 tick # a remark\n")
@@ -321,14 +388,14 @@ def damaged(folder, seed):
 
 def decisions(name, sheet, data, lines):
     """Every decision of a run is explained: the mode and the thread are the desk's, each other competing job is told why it came later, and a slice
-    that ended, what is left of one, what a new priority did, and the line are as document 02, (i) and (ii), has them."""
+    that ended, what is left of one, what a new priority did, the line, who is favoured and who is tied are as document 02, (i) to (iii), has them."""
     read, told = [programs.read_line(line) for line in lines], 0
     if programs.sheet_refused(read):
         return 0
-    sheet = sheets.read(sheet)
-    names = [f"job {p}" for p in range(len(sheet.shares))]
-    steps = replay.replay(sheet, records.split(data), read)
-    for step, (ended, left), (did, line, raised, lowered) in zip(steps, slices(data, lines), places(data, lines), strict=True):
+    settings = sheets.read(sheet)
+    names = [f"job {p}" for p in range(len(settings.shares))]
+    steps = zip(replay.replay(settings, records.split(data), read), slices(data, lines), places(data, lines), ties(sheet, data, lines), strict=True)
+    for step, (ended, left), (did, line, raised, lowered), (ran, best) in steps:
         text = list(why.text(step, Day(records.split(data), [], []), names))
         if step.accepted and step.line.mode:
             told += 1
@@ -337,6 +404,11 @@ def decisions(name, sheet, data, lines):
             said = "\n".join(text)
             expect(f"\nmode {step.line.mode}, " in said and f"\nthread {step.line.thread} runs" in said and len(later) == compete - 1,
                    f"{name}: the decision after event {step.number} is told as {said}")
+            won, ran_until = step.line.partition, f"job {ran}, which ran" if ran is not None else "nobody, because the processor idled"
+            why_won = f"a tie, and job {won} is favoured: it ran, and stays" if ran in best else TIE_OF_OTHERS
+            expect(f"\nfavoured in a tie: {ran_until} until this event\n" in said and won == (ran if ran in best else best[0])
+                   and [line for line in later if "a tie" in line] == [f"job {won} before job {p}: {why_won}" for p in best if p != won],
+                   f"{name}: after event {step.number}, until which {ran} ran, {best} are tied for best, and it is told as {said}")
             expect(re.findall(r"this tick ended the slice of thread (\d+),", said) == [str(ended)] * (ended is not None)
                    and re.findall(rf"\nthread {step.line.thread} is round robin: (\d) of the 4 ticks", said) == [str(left)] * (left > 0),
                    f"{name}: after event {step.number} the slice of {ended} ended, {left} ticks are left, and it is told as {said}")
@@ -351,14 +423,16 @@ def decisions(name, sheet, data, lines):
 
 
 def disagreeing(folder):
-    """With a program in the desk's place that answers wrongly, the tool explains nothing and says where."""
+    """With a program in the desk's place that answers wrongly, the tool explains nothing and says where. The last one gives a tie to the lowest
+    number, although the other job ran."""
     shutil.copytree(ROOT / "tools/lib", folder / "tools/lib")
     shutil.copy2(ROOT / "tools/day", folder / "tools/day")
-    day = fill(folder / "day", WORKED_SHEET, WORKED_TEXT)
-    right = [line.decode() for line in desk_lines(day, subprocess.run(
-        [ROOT / "tools/events", "encode"], input=WORKED_TEXT.encode(), stdout=subprocess.PIPE, check=True).stdout)]
-    for at, line, said in [(4, "00 2 00 000\n", "event 5 "), (8, "00 2 01 001\n", "event 9 "), (0, "13 0 00 000\n", "event 1 "),
-                           (3, "", "9 lines for 10"), (2, "hello world\n", "no line of the desk")]:
+    tie = "0 create 0 partition 0 priority 9 mask 1\n0 create 1 partition 1 priority 9 mask 1\n0 ready 1\n0 ready 0\n"
+    for text, at, line, said in [(WORKED_TEXT, 4, "00 2 00 000\n", "event 5 "), (WORKED_TEXT, 8, "00 2 01 001\n", "event 9 "),
+                                 (WORKED_TEXT, 0, "13 0 00 000\n", "event 1 "), (WORKED_TEXT, 3, "", "9 lines for 10"),
+                                 (WORKED_TEXT, 2, "hello world\n", "no line of the desk"), (tie, 3, "00 2 00 000\n", "event 4 ")]:
+        day = fill(folder / "day", WORKED_SHEET, text)
+        right = [line.decode() for line in desk_lines(day, records.encode(text.encode()))]
         lines = right[:at] + [line] + right[at + 1:]
         (folder / "bin").mkdir(exist_ok=True)
         (folder / "answers").write_text("".join(lines))
@@ -394,11 +468,16 @@ def main():
         told += sum(count for count, _ in found)
         words = [word for _, did in found for word in did]
         expect(all(words.count(word) > 10 for word in SAID), f"only so many new priorities were told: { {word: words.count(word) for word in SAID} }")
+        found = [ties_told(folder / f"ties{seed}", seed) for seed in range(8)]
+        told += sum(count for count, _ in found)
+        words = [word for _, won in found for word in won]
+        expect(all(words.count(word) > 30 for word in (STAYS, LOWEST)), f"only so many ties were told: {words.count(STAYS)}, {words.count(LOWEST)}")
         expect(stretches > 500, f"only {stretches} stretches were compared")
         starving(folder / "starving")
         example()
         turns()
         places_shown(folder / "places")
+        ties_shown()
         statuses(folder / "statuses")
         for seed in range(40):
             damaged(folder / f"damaged{seed}", seed)

@@ -4,6 +4,8 @@
 """
 import random
 import subprocess
+from collections import Counter
+from fractions import Fraction
 from pathlib import Path
 
 from records import record
@@ -57,15 +59,16 @@ def table(text):
     return rows
 
 
-def random_day(seed, window, tick, count, threads, length, priorities=range(256), policies=(0,)):
-    """Events of a day whose ticks are mostly on time, in which threads mostly stay ready, with a resume, late ticks and refusals here and there."""
+def random_day(seed, window, tick, count, threads, length, priorities=range(256), policies=(0,), apart=1):
+    """Events of a day whose ticks are mostly on time, in which threads mostly stay ready, with a resume, late ticks and refusals here and there.
+    Stamps between ticks are multiples of `apart` cycles after the tick: where that is much, jobs have often used the same."""
     draw, draw_policy = random.Random(seed), random.Random(seed + 1)
     events = [record(2, 0, t, t % count, draw.choice(priorities), draw.choice((1, 1, 1, 3, 2)), draw_policy.choice(policies)) for t in range(threads)]
     events += [record(3, 0, t) for t in range(threads) if draw.random() < 0.9]
     now = 0
     for _ in range(length):
         end = now + (tick if draw.random() < 0.99 else draw.choice((tick // 2, 2 * tick)))
-        for stamp in sorted(draw.randrange(now, end + 1) for _ in range(draw.choice((0, 0, 1, 2)))):
+        for stamp in sorted(draw.randrange(now, end + 1, apart) for _ in range(draw.choice((0, 0, 1, 2)))):
             thread, kind = draw.randrange(threads), draw.choice((3, 3, 3, 4, 5, 6, 2))
             if kind == 6 and draw.random() < 0.8:
                 kind = 3
@@ -182,6 +185,49 @@ def places(data, lines):
         if text[:2] == b"00" and kind in (2, 5):
             priorities[thread] = priority
         yield did, line, [t for t in line if moved[t] == "raised"], [t for t in line if moved[t] == "lowered"]
+
+
+def ties(sheet, data, lines):
+    """For each event, from events and lines alone, as document 01 ("The decision") and document 02, (iii), put it: the partition that ran until it,
+    None where the processor idled, and those that are tied for best after it. A refused event leaves both as they were."""
+    window, tick, policy, core, *shares = (int(sheet[i + 5:i + 11]) for i in range(0, len(sheet), 12))
+    budgets = [share * window * tick // 100 for share in shares]
+    known, charges, old, running = {}, [Counter()], 0, None  # charges: of each tick period since the last resume
+    ran, best = None, []
+    for at, (text, (_, line, _, _)) in enumerate(zip(lines, places(data, lines))):
+        if text[:2] == b"00":
+            kind, thread, partition, priority, *_, mask = data[12 * at:12 * at + 9]
+            stamp = int.from_bytes(data[12 * at + 4:12 * at + 8], "little")
+            charges[-1][running] += (stamp - old) % 2**32
+            if kind == 7:
+                charges = [Counter()]
+            elif kind == 1:
+                charges.append(Counter())
+            elif kind == 2:
+                known[thread] = partition, mask, priority
+            elif kind == 5:
+                known[thread] = *known[thread][:2], priority
+            ran, best = running, tied_for_best(budgets, sum(charges[-window:], Counter()), tick, policy, [known[t] for t in line], core)
+            old, running = stamp, None if text[3:4] == b"0" else int(text[5:7])
+        yield ran, best
+
+
+def tied_for_best(budgets, used, tick, policy, ready, core):
+    """The partitions that no other is better than, of those with a ready thread that the core may run."""
+    top = {}
+    for partition, mask, priority in ready:
+        if mask >> core & 1:
+            top[partition] = max(priority, top.get(partition, 0))
+    has_budget = {p: 4 * (budgets[p] - used[p]) >= tick for p in top}
+    fraction = {p: Fraction(used[p], budgets[p]) if budgets[p] else float("inf") for p in top}
+    free_time = any(budget and p not in top for p, budget in enumerate(budgets))
+    if not free_time and not any(has_budget.values()):
+        order = {p: (fraction[p],) for p in top}
+    elif free_time and policy == 1:
+        order = {p: (not has_budget[p], fraction[p]) for p in top}
+    else:
+        order = {p: (not has_budget[p], -top[p], fraction[p]) for p in top}
+    return [p for p in sorted(top) if order[p] == min(order.values())]
 
 
 def desk_lines(folder, data):

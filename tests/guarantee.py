@@ -1,10 +1,10 @@
 #!/usr/bin/env python3
 """Document 01's example of the guarantee, on a hostile list of events: W 100, C 1000, four partitions, share 10: at least 7,750 cycles
 in 200 ticks. The partition with 10 percent waits throughout, at the lowest priority, in every other list with two threads that take turns and are
-raised and lowered to each other's priority; the others wake, sleep and change priority so as to run past their budgets. What was charged is worked
-out here from the events and the printed lines alone. And a list on which the bound is reached exactly, tests/vectors/tight, made for another
-scheduler: W 5, C 100, shares 70, 25 and 5; partition 0 waits throughout, is promised 350 less twice 75, and between the ticks at 1000 and 2000 gets
-200, and not one more.
+raised and lowered to each other's priority; the others wake, sleep and change priority so as to run past their budgets. In every third list all have
+one priority, and the waiting partition loses ties to others that ran. What was charged is worked out here from the events and the printed lines
+alone. And a list on which the bound is reached exactly, tests/vectors/tight, made for another scheduler: W 5, C 100, shares 70, 25 and 5; partition 0
+waits throughout, is promised 350 less twice 75, and between the ticks at 1000 and 2000 gets 200, and not one more.
 
     tests/guarantee.py DESK
 """
@@ -14,6 +14,7 @@ import sys
 import tempfile
 from pathlib import Path
 
+from folders import ties
 from records import record
 
 WINDOW, TICK = 100, 1000
@@ -24,17 +25,18 @@ TIGHT = Path(__file__).resolve().parent / "vectors/tight"
 TIGHT_WINDOW, TIGHT_TICK, TIGHT_WAITING, TIGHT_BOUND = 5, 100, 0, 200
 
 
-def hostile(rate, seed, rounds, policy):
+def hostile(rate, seed, rounds, policy, equal):
     """A list of events that works against the waiting partition; whether it is the worst there is, nobody has shown. In each round the others
     sleep for a window of ticks of double length, so that it is charged twenty times its budget. Then two of them wake above it and use
     the free time of the third, which wakes, with all of its budget, when the waiting partition has budget again. All that time, two windows of
     full ticks, they sleep, wake and change priority at odd moments, each in `rate` of a hundred periods, so that they run past their budgets. The
-    policy is that of the threads; where it is round robin, two of the waiting partition take turns, and change their priority as often."""
-    draw = random.Random(seed)
+    policy is that of the threads; where it is round robin, two of the waiting partition take turns, and change their priority as often. Where all are
+    equal, the others have the waiting partition's priority, and sleep and wake at ticks and halfway between them, so that there are ties."""
+    draw, offsets = random.Random(seed), range(0, TICK, TICK // 2 if equal else 1)
     stamp = 2**32 - 50 * TICK
     events = [(7, record(7, stamp), stamp)]
     for partition in range(4):
-        priority = 1 if partition == WAITING else 100 + partition
+        priority = 1 if equal or partition == WAITING else 100 + partition
         events.append((2, record(2, stamp, partition, partition, priority, 1, policy), stamp))
     events.append((3, record(3, stamp, WAITING), stamp))
     if policy == 1:
@@ -46,15 +48,15 @@ def hostile(rate, seed, rounds, policy):
         events += [(3, record(3, stamp, other), stamp) for other in (2, 3)]
         for period in range(2 * WINDOW + 10):
             awake = period > WINDOW - 7 + turn
-            moves = [(draw.randrange(TICK), 3, 0)] if period == WINDOW - 7 + turn else []
+            moves = [(draw.choice(offsets), 3, 0)] if period == WINDOW - 7 + turn else []
             for other in (0, 2, 3) if awake else (2, 3):
                 if draw.random() < rate / 100:
-                    away, back = sorted(draw.sample(range(TICK), 2))
+                    away, back = sorted(draw.sample(offsets, 2))
                     moves += [(away, 4, other), (back, 3, other)]
-                elif draw.random() < rate / 100:
-                    moves.append((draw.randrange(TICK), 5, other))
+                elif not equal and draw.random() < rate / 100:
+                    moves.append((draw.choice(offsets), 5, other))
             if policy == 1 and draw.random() < rate / 100:
-                moves.append((draw.randrange(TICK), 5, draw.choice((WAITING, SECOND))))
+                moves.append((draw.choice(offsets), 5, draw.choice((WAITING, SECOND))))
             for offset, kind, other in sorted(moves):
                 priority = 0 if kind != 5 else draw.randrange(2) if other in (WAITING, SECOND) else draw.randrange(2, 256)
                 events.append((kind, record(kind, stamp + offset, other, priority=priority), stamp + offset))
@@ -88,6 +90,11 @@ def printed(desk, sheet, events):
     return [out[i:i + 12] for i in range(0, len(out), 12)]
 
 
+def lost_ties(sheet, data, lines):
+    """How often the waiting partition was tied for best, and one of a higher number, which had run, went on."""
+    return sum(WAITING in best and ran in best and WAITING < ran == int(line[5:7]) for line, (ran, best) in zip(lines, ties(sheet, data, lines)))
+
+
 def tight(desk):
     """What the waiting partition is charged in each stretch of the tight list."""
     events = (TIGHT / "events.bin").read_bytes()
@@ -99,19 +106,24 @@ def tight(desk):
 def main():
     desk = Path(sys.argv[1]).resolve()
     sheet = "W 00 %06d\nC 00 %06d\nP 00 000000\nM 00 000000\n" % (WINDOW, TICK) + "".join("S %02d %06d\n" % s for s in enumerate(SHARES))
-    found, took_turns = [], False
+    found, took_turns, lost = [], False, 0
     for policy in (0, 1):
+        settings = sheet.replace("P 00 000000", "P 00 %06d" % policy).encode()
         for seed in range(140):
-            events = hostile(seed % 7, seed, 6, seed % 2)
-            lines = printed(desk, sheet.replace("P 00 000000", "P 00 %06d" % policy).encode(), b"".join(e[1] for e in events))
+            events = hostile(seed % 7, seed, 6, seed % 2, seed % 3 == 0)
+            data = b"".join(e[1] for e in events)
+            lines = printed(desk, settings, data)
             took_turns |= any(line[8:11] == b"%03d" % SECOND for line in lines)
+            lost += lost_ties(settings, data, lines) if seed == 0 else 0  # of one list for each policy: it takes a second
             found += stretches([(kind, stamp) for kind, _, stamp in events], lines, WINDOW, TICK, WAITING)
     print(f"guarantee: at least {min(found)} cycles in each of {len(found)} stretches of 200 ticks; {BOUND} are promised")
     reached = tight(desk)
     print(f"guarantee: {min(reached)} cycles in the tightest of {len(reached)} stretches of {2 * TIGHT_WINDOW} ticks; {TIGHT_BOUND} are promised")
     if not took_turns:
         print("guarantee: the waiting partition's second thread never ran")
-    sys.exit(min(found) < BOUND or min(reached) != TIGHT_BOUND or not took_turns)
+    if not lost:
+        print("guarantee: the waiting partition never lost a tie to one of a higher number")
+    sys.exit(min(found) < BOUND or min(reached) != TIGHT_BOUND or not took_turns or not lost)
 
 
 if __name__ == "__main__":

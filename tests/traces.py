@@ -97,6 +97,22 @@ def moved(folder):
            f"thread 4 has the slices {found}")
 
 
+# the screen's threads in the example of ties, by hand, in thousands of cycles
+KEPT = {
+    "thread 3": [(0, 1, "running"), (1, 3, "waiting"), (3, 5, "running"), (5, 7, "waiting"), (7, 8, "running")],
+    "thread 4": [(8, 9, "running"), (9, 11, "waiting")],
+}
+
+
+def kept(folder):
+    """The example of ties: the screen and tracking run for two ticks each, the screen's second thread where its first one ends."""
+    shutil.copytree(ROOT / "examples/ties", folder)
+    trace = Trace(folder)
+    for thread, wanted in KEPT.items():
+        found = trace.slices["screen", thread]
+        expect(found == [(1000 * start, 1000 * end, name) for start, end, name in wanted], f"{thread} has the slices {found}")
+
+
 def measured(folder, seed):
     sheet, data = sheet_of(4, 400, (50, 30, 20)), random_day(seed, 4, 400, 3, 6, 300, *([(10, 20), (0, 1)] if seed % 2 else []))
     trace = Trace(fill(folder, sheet, data=data))
@@ -125,9 +141,10 @@ def main():
         worked(Path(name) / "worked")
         turns(Path(name) / "turns")
         moved(Path(name) / "places")
+        kept(Path(name) / "ties")
         for seed in range(10):
             measured(Path(name) / f"day{seed}", seed)
-    print(f"traces: the traces of 13 days, {expect.wrong} things wrong")
+    print(f"traces: the traces of 14 days, {expect.wrong} things wrong")
     sys.exit(expect.wrong != 0)
 
 

@@ -10,7 +10,15 @@ def meaning(step, day, names):
         return f"REFUSED ({line.refusal}), {day.source(step.number - 1)}: {step.words}"
     if line.thread == NOBODY:
         return f"idle{place(step)}"
-    return f"{names[line.partition]} runs (thread {line.thread}), {MODES[line.mode]}{turn(step)}{place(step)}"
+    return f"{names[line.partition]} runs (thread {line.thread}), {MODES[line.mode]}{tie(step)}{turn(step)}{place(step)}"
+
+
+def tie(step):
+    """Several jobs were tied for best: the one that ran until the event won, or the one of the lowest number."""
+    scheduler = step.scheduler
+    if len(scheduler.tied) < 2:
+        return ""
+    return "; a tie, and it stays" if scheduler.favoured in scheduler.tied else "; a tie, and it has the lowest number"
 
 
 def turn(step):

@@ -1,5 +1,5 @@
-"""Document 01's rules for one core, with the time slices of document 02, (i), and the places after a changed priority, (ii), as plain as they can be
-said: what an event is refused for, what it charges and changes, and who runs next.
+"""Document 01's rules for one core, with the time slices of document 02, (i), the places after a changed priority, (ii), and the ties of (iii), as
+plain as they can be said: what an event is refused for, what it charges and changes, and who runs next.
 
 The tools need this to say why, and what was used. They never answer by it alone: replay.py holds every step to the line of the proved desk.
 """
@@ -80,7 +80,8 @@ class Standing(NamedTuple):
         return self.remaining >= self.enough
 
 
-# ---- the order of partitions. A criterion is above 0 where the first standing is better than the second, below 0 where it is worse.
+# ---- the order of partitions. A criterion is above 0 where the first standing is better than the second, below 0 where it is worse, and 0 where they
+# are equal.
 
 def by_budget(a, b):
     return a.has_budget - b.has_budget
@@ -101,7 +102,7 @@ NAMES = {by_budget: "has budget", by_priority: "top priority", by_fraction: "fra
 
 
 def criteria(mode, policy):
-    """What partitions are compared by in a mode, first to last. What is equal in all of them goes to the lowest number."""
+    """What partitions are compared by in a mode, first to last. Two that are equal in all of them are tied."""
     if mode == AT_LIMIT:
         return (by_fraction,)
     if mode == FREE_TIME and policy == 1:
@@ -110,7 +111,7 @@ def criteria(mode, policy):
 
 
 def settled(a, b, order):
-    """The criterion that tells two standings apart, and how; None where nothing does."""
+    """The criterion that tells two standings apart, and how; None where they are tied."""
     for criterion in order:
         if difference := criterion(a, b):
             return criterion, difference
@@ -126,15 +127,21 @@ def mode_of(standings):
     return UNDERLOAD if any(s.has_budget for s in competing) else AT_LIMIT
 
 
-def winner(standings, order):
-    """The best of those that compete; a later one has to be better."""
-    best = None
-    for standing in standings:
-        if standing.competing:
-            apart = best and settled(standing, best, order)
-            if best is None or (apart and apart[1] > 0):
-                best = standing
+def tied_for_best(standings, order):
+    """Those that compete and that none is better than, by number; one alone is the best and tied with nobody."""
+    best = []
+    for standing in (s for s in standings if s.competing):
+        apart = best and settled(standing, best[0], order)
+        if not best or (apart and apart[1] > 0):
+            best = [standing]
+        elif not apart:
+            best.append(standing)
     return best
+
+
+def winner(tied, favoured):
+    """Of those tied for best the favoured partition, if it is one of them; otherwise the lowest number."""
+    return next((s for s in tied if s.partition == favoured), tied[0])
 
 
 class Scheduler:
@@ -146,8 +153,10 @@ class Scheduler:
         self.threads = {}
         self.line = []
         self.running = NOBODY
-        self.moved = None    # the thread that the last accepted event moved in the line, and what moved it
-        self.changed = None  # the change that the last accepted event was, if it set a priority
+        self.favoured = None  # the partition that ran until the last accepted event; None where the processor idled
+        self.tied = []        # the partitions that are tied for best in the decision after it, by number
+        self.moved = None     # the thread that the last accepted event moved in the line, and what moved it
+        self.changed = None   # the change that the last accepted event was, if it set a priority
         self.competing = set()
         self.stamp = 0
         self.forget()
@@ -231,12 +240,13 @@ class Scheduler:
     # ---- an accepted event
 
     def charge(self, event):
-        """Step 1: the elapsed time goes to the running thread's partition; idle time to no account. Answers how much it was."""
+        """Step 1: the elapsed time goes to the running thread's partition, which is the favoured one; idle time to no account. Answers how much it
+        was."""
         elapsed = 0 if event.kind == RESUME else self.elapsed(event)
-        partition = self.running_partition()
-        if partition is not None:
-            self.rows[partition][self.slot] += elapsed
-            self.used[partition] += elapsed
+        self.favoured = self.running_partition()
+        if self.favoured is not None:
+            self.rows[self.favoured][self.slot] += elapsed
+            self.used[self.favoured] += elapsed
         self.since_tick += elapsed
         self.stamp = event.stamp
         return elapsed
@@ -330,7 +340,11 @@ class Scheduler:
         standings = self.standings()
         self.competing = {s.partition for s in standings if s.competing}
         mode = mode_of(standings)
-        best = winner(standings, criteria(mode, self.sheet.policy))
-        decision = Decision(mode, best.partition, self.candidates(best)[0]) if best else Decision(IDLE, 0, NOBODY)
+        tied = tied_for_best(standings, criteria(mode, self.sheet.policy))
+        decision = Decision(IDLE, 0, NOBODY)
+        if tied:
+            best = winner(tied, self.favoured)
+            decision = Decision(mode, best.partition, self.candidates(best)[0])
+        self.tied = [s.partition for s in tied]
         self.running = decision.thread
         return decision

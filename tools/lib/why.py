@@ -1,7 +1,7 @@
 """Why this one? The decision after an event, as it was made."""
 from lib.listing import meaning
 from lib.scheduler import (AT_LIMIT, FREE_TIME, IDLE, LOWERED, MODES, NAMES, RAISED, SLICE, UNDERLOAD, by_budget, by_priority, criteria, mode_of,
-                           settled, winner)
+                           settled)
 from lib.text import columns, count, percent
 
 HEADS = ("job", "competing", "top priority", "used", "budget", "remaining", "has budget", "fraction used")
@@ -21,12 +21,22 @@ def row(standing, names):
             count(standing.budget), count(standing.remaining), "yes" if standing.has_budget else "no", fraction)
 
 
-def reason(best, other, order, names):
-    """Why the best is before another that competes."""
+def favour(step, names):
+    """Who is favoured in a tie. A refused event favours nobody else than the last accepted one did."""
+    until = "this event" if step.accepted else "the last accepted event"
+    if step.scheduler.favoured is None:
+        return f"favoured in a tie: nobody, because the processor idled until {until}"
+    return f"favoured in a tie: {names[step.scheduler.favoured]}, which ran until {until}"
+
+
+def reason(best, other, order, favoured, names):
+    """Why the winner is before another that competes. It is never worse: where nothing tells the two apart, they are tied for best."""
     apart = settled(best, other, order)
     first, second = names[best.partition], names[other.partition]
+    if apart is None and best.partition == favoured:
+        return f"{first} before {second}: a tie, and {first} is favoured: it ran, and stays"
     if apart is None:
-        return f"{first} before {second}: equal in all of that, and the lower number goes first"
+        return f"{first} before {second}: a tie without the favoured job, so the lower number goes first"
     if apart[0] is by_budget:
         return f"{first} before {second}: {first} has budget, and {second} has not"
     if apart[0] is by_priority:
@@ -100,11 +110,12 @@ def text(step, day, names):
     yield f"mode {mode}, {MODES[mode]}: {REASONS[mode]}"
     if mode == IDLE:
         return
-    yield f"policy {policy}; compared by: {', then '.join(NAMES[c] for c in order)}; what is equal goes to the lowest number"
-    best = winner(standings, order)
+    yield f"policy {policy}; compared by: {', then '.join(NAMES[c] for c in order)}"
+    yield favour(step, names)
+    best = standings[scheduler.running_partition()]
     others = [s for s in standings if s.competing and s is not best]
     for other in others:
-        yield reason(best, other, order, names)
+        yield reason(best, other, order, scheduler.favoured, names)
     if not others:
         yield f"{names[best.partition]} is the only one that competes"
     yield choice(scheduler, best)
