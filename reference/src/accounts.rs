@@ -7,6 +7,7 @@
 use crate::counts::{budget, Balance, Cycles};
 use crate::sheet::Settings;
 use crate::PARTITIONS;
+use std::cmp::Ordering;
 
 /// One number for each partition. Those past the count stay 0.
 type Row = [Cycles; PARTITIONS];
@@ -90,18 +91,19 @@ impl Accounts {
         }
     }
 
-    /// Is a's fraction used smaller than b's? A partition without budget is
-    /// worse than every other and as good as another one without.
+    /// Compares two partitions by the fraction used: greater is better, that
+    /// is, the smaller fraction. One without budget is worse than every other
+    /// and equal to another one without.
     #[inline]
-    pub fn better(&self, a: usize, b: usize) -> bool {
+    pub fn by_fraction(&self, a: usize, b: usize) -> Ordering {
         let wide = |row: &Row, p: usize| u64::from(row[p].0);
-        if self.budget[a].0 == 0 {
-            return false;
+        let [some_a, some_b] = [a, b].map(|p| self.budget[p].0 != 0);
+        if !(some_a && some_b) {
+            return some_a.cmp(&some_b);
         }
-        if self.budget[b].0 == 0 {
-            return true;
-        }
-        wide(&self.used, a) * wide(&self.budget, b) < wide(&self.used, b) * wide(&self.budget, a)
+        let of_a = wide(&self.used, a) * wide(&self.budget, b);
+        let of_b = wide(&self.used, b) * wide(&self.budget, a);
+        of_b.cmp(&of_a)
     }
 
     /// Bit p: p's budget is above 0.

@@ -1,4 +1,4 @@
-//! The proved library as it was before changed priorities moved threads, for
+//! The proved library as it was before a tie was the running partition's, for
 //! the benchmark: its state and its functions are the present ones'. tools/bench
 //! gives its functions these names, so that one program has both libraries.
 

@@ -19,8 +19,8 @@
 //!
 //! Built with `--cfg against` it links the library of the commit before too,
 //! and takes its runs and single events in turns with the others. It gets the
-//! same events, and its lines are other ones: there a new priority leaves a
-//! thread in its place.
+//! same events, and its lines are other ones: there a tie goes to the lowest
+//! partition, whoever runs.
 
 mod batches;
 #[cfg(against)]

@@ -19,16 +19,18 @@ mod fixed;
 mod proved;
 mod sound;
 mod states;
+mod tally;
 
 use fenced::{Edge, Fenced};
 use proved::{Settings, State};
 use reference::plain::Plain;
 use reference::streams::{answer, stream, Case, Random, Reach};
-use reference::{read_sheet, write_sheet, Balance, Kept, Line, Scheduler, RECORD};
+use reference::{read_sheet, write_sheet, Balance, Kept, Line, Scheduler, NO_THREAD, RECORD};
 use states::Saved;
 use std::process::ExitCode;
 use std::sync::atomic::{AtomicU64, Ordering};
 use std::time::Instant;
+use tally::Tally;
 
 /// Bytes that the longest lent array may have: the longest streams have
 /// 60,000.
@@ -38,7 +40,10 @@ const OLD_BYTE: u8 = 0xA5;
 const OLD_NUMBER: u32 = u32::from_ne_bytes([OLD_BYTE; 4]);
 /// Kinds of events.
 const TICK: u8 = 1;
+const BLOCK: u8 = 4;
 const SET: u8 = 5;
+const END: u8 = 6;
+const RESUME: u8 = 7;
 /// Numbers of history behind the rows.
 const BEHIND: usize = 5;
 /// Of how many states each byte takes all other values, and how long their
@@ -92,30 +97,11 @@ fn first_difference<T: PartialEq + std::fmt::Debug>(
     pairs.try_for_each(|(place, (wanted, found))| same(&format!("{what} {place}"), wanted, found))
 }
 
-/// What was done.
-#[derive(Default)]
-struct Counts {
-    events: u64,
-    records: u64,
-    asked: u64,
-    written: u64,
-    refused: u64,
-    sound: u64,
-    /// Refused for a policy, a slice, or one of them in an absent thread, and
-    /// for nothing else.
-    unfit: [u64; 3],
-    flags: u64,
-    thorough: u64,
-    /// Of states that are still sound: new priorities that moved a thread, to
-    /// the head and to the tail.
-    moved: [u64; 2],
-}
-
 struct Comparison {
     random: Random,
     fenced: Fenced,
     reach: Reach,
-    counts: Counts,
+    tally: Tally,
 }
 
 impl Comparison {
@@ -124,7 +110,7 @@ impl Comparison {
             random: Random::new(0),
             fenced: Fenced::new(ROOM),
             reach: Reach::default(),
-            counts: Counts::default(),
+            tally: Tally::default(),
         }
     }
 
@@ -197,7 +183,7 @@ impl Comparison {
         same("what write sheet wrote", &wanted, &found)?;
         same("what write sheet was given", settings, &given)?;
         self.reach.refusals[usize::from(told)] += u64::from(told != 0);
-        self.counts.written += 1;
+        self.tally.written += 1;
         Ok(())
     }
 
@@ -280,6 +266,15 @@ impl Comparison {
                 damage::saved(&mut self.random, &mut changed);
                 self.on_any_state(&changed, record).map_err(here)?;
             }
+            // A tie is where the running thread tells most.
+            let seldom = if second.tied().count_ones() > 1 {
+                2
+            } else {
+                16
+            };
+            if closely && self.below(seldom) == 0 {
+                self.another_running(&saved, record).map_err(here)?;
+            }
             let mut event = record.to_vec();
             let line = self.fenced.event(&mut saved, &mut event);
             let told = second.event(record);
@@ -290,26 +285,32 @@ impl Comparison {
             }
             same_saved("after an event", &wanted, &saved).map_err(here)?;
             same("an event's bytes", &record, &&event[..]).map_err(here)?;
-            self.counts.events += 1;
+            self.tally.events += 1;
             if closely {
-                self.asked(&second, &mut saved).map_err(here)?;
+                self.asked(&second, &mut saved, &told).map_err(here)?;
                 same_saved("after decision and remaining", &wanted, &saved).map_err(here)?;
             }
         }
         Ok(saved)
     }
 
-    /// Decision, and remaining of each partition and of some that are not
-    /// there.
-    fn asked(&mut self, second: &Scheduler, saved: &mut Saved) -> Checked {
+    /// Decision, which is the event's where that was accepted, and remaining of
+    /// each partition and of some that are not there.
+    fn asked(&mut self, second: &Scheduler, saved: &mut Saved, told: &Line) -> Checked {
         let decision = self.fenced.decision(saved);
         same("decision", &second.decision(), &decision)?;
+        if told.refusal == 0 {
+            same("the decision after an event", told, &decision)?;
+            let tied = second.tied();
+            let lowest = (tied != 0).then_some(tied.trailing_zeros() as usize);
+            self.tally.repeated(told, lowest);
+        }
         let count = second.settings().partitions as u32;
         for partition in (0..=count).chain([16, 256, 1 << 16, 1 << 31, u32::MAX]) {
             let told = second.remaining(partition as usize);
             self.remaining(saved, partition, told)?;
         }
-        self.counts.asked += 1;
+        self.tally.asked += 1;
         Ok(())
     }
 
@@ -344,7 +345,7 @@ impl Comparison {
             same("a run of a few records", &0, &refusal)?;
             for event in events.chunks(RECORD) {
                 second.event(event);
-                self.counts.records += 1;
+                self.tally.records += 1;
             }
             wanted.set(&second);
             same_saved("after a run of a few records", &wanted, &saved)?;
@@ -363,6 +364,9 @@ impl Comparison {
         let decision = self.fenced.decision(&mut saved);
         let told = plain.as_ref().map_or(refused, Plain::decision);
         same("decision on a changed state", &told, &decision)?;
+        if let Some(plain) = &plain {
+            self.tally.decided(&given.state, plain);
+        }
         let count = given.state.settings.count;
         let partition = self.random.below(18);
         let told = match &plain {
@@ -381,6 +385,13 @@ impl Comparison {
         let mut event = record.to_vec();
         let line = self.fenced.event(&mut saved, &mut event);
         same("an event on a changed state", &told, &line)?;
+        if let Some(plain) = plain.as_ref().filter(|_| told.refusal == 0) {
+            let decision = self.fenced.decision(&mut saved);
+            same("the decision after it", &told, &decision)?;
+            self.tally.repeated(&told, plain.tied().first().copied());
+            self.tally
+                .accepted(&given.state, record, plain, &wanted.state);
+        }
         same_saved("after an event on a changed state", &wanted, &saved)?;
 
         let mut saved = given.clone();
@@ -396,16 +407,36 @@ impl Comparison {
         check(event == record, "an event's bytes were changed")?;
 
         self.reach.refusals[usize::from(refusal)] += u64::from(refusal != 0);
-        self.counts.refused += u64::from(refusal != 0);
-        self.counts.sound += u64::from(refusal == 0);
-        if refusal == 0 && record[0] == SET && wanted.state.queue != given.state.queue {
-            let raised = wanted.state.priorities > given.state.priorities;
-            self.counts.moved[usize::from(raised)] += 1;
-        }
-        if let Some(unfit) = sound::refused_for(given) {
-            self.counts.unfit[unfit as usize] += 1;
+        self.tally.refused += u64::from(refusal != 0);
+        self.tally.sound += u64::from(refusal == 0);
+        if let Some(cause) = sound::refused_for(given) {
+            self.tally.refused_for(cause);
         }
         Ok(())
+    }
+
+    /// A sound state with another running thread, or with none, and nothing else
+    /// changed: who runs is then not who an event left running, and is favoured
+    /// all the same.
+    fn another_running(&mut self, saved: &Saved, record: &[u8]) -> Checked {
+        let State { masks, queue, .. } = &saved.state;
+        let core = saved.state.settings.core;
+        let line = queue[..saved.state.queued as usize].iter();
+        let allowed = line.filter(|&&t| masks[usize::from(t)] >> core & 1 == 1);
+        let running: Vec<u8> = allowed.copied().chain([NO_THREAD]).collect();
+        let mut changed = saved.clone();
+        changed.state.running = self.random.pick(&running).into();
+        let [was, is] = [saved, &changed].map(|saved| states::plain(saved).decision());
+        self.tally.turned += u64::from(was != is);
+        let event = match self.below(8) {
+            0 => self.like_another(&saved.state),
+            1 => now(TICK, 0, &saved.state),
+            2 => now(RESUME, 0, &saved.state),
+            3 => now(BLOCK, changed.state.running as u8, &saved.state),
+            4 => now(END, changed.state.running as u8, &saved.state),
+            _ => return self.on_any_state(&changed, record),
+        };
+        self.on_any_state(&changed, &event)
     }
 
     /// Each byte of a state and of its history with other values: all of
@@ -413,13 +444,13 @@ impl Comparison {
     /// have to be refused with 8, and some for more states. Every other value
     /// meets a tick, the rest a new priority.
     fn each_byte(&mut self, saved: &Saved, some: bool) -> Checked {
-        let all = self.counts.thorough < THOROUGH
+        let all = self.tally.thorough < THOROUGH
             && saved.history.len() <= SHORT
             && saved.state.queued >= 3;
         if !all && !some {
             return Ok(());
         }
-        self.counts.thorough += u64::from(all);
+        self.tally.thorough += u64::from(all);
         for place in 0..proved::STATE + 4 * saved.history.len() {
             let values = if all { 255 } else { 3 };
             for value in 1..=values {
@@ -436,10 +467,10 @@ impl Comparison {
                 if odd {
                     let refusal = sound::refused(&changed);
                     same("a flag or a policy that is neither 0 nor 1", &8, &refusal)?;
-                    self.counts.flags += 1;
+                    self.tally.flags += 1;
                 }
                 let event = match (place + usize::from(value)) % 2 {
-                    0 => tick(&saved.state),
+                    0 => now(TICK, 0, &saved.state),
                     _ => self.like_another(&saved.state),
                 };
                 self.on_any_state(&changed, &event)
@@ -455,7 +486,7 @@ impl Comparison {
     /// A thread of the line gets the priority of another there, at the time of
     /// a state; a tick where the line is empty.
     fn like_another(&mut self, state: &State) -> [u8; RECORD] {
-        let mut event = tick(state);
+        let mut event = now(TICK, 0, state);
         if let line @ [_, ..] = &state.queue[..state.queued as usize] {
             let [thread, other] = [0; 2].map(|_| self.random.pick(line));
             event[0] = SET;
@@ -466,10 +497,10 @@ impl Comparison {
     }
 }
 
-/// A tick at the time of a state.
-fn tick(state: &State) -> [u8; RECORD] {
+/// An event of a thread, or of none, at the time of a state.
+fn now(kind: u8, thread: u8, state: &State) -> [u8; RECORD] {
     let mut event = [0; RECORD];
-    event[0] = TICK;
+    event[..2].copy_from_slice(&[kind, thread]);
     event[4..8].copy_from_slice(&state.stamp.to_le_bytes());
     event
 }
@@ -558,33 +589,10 @@ fn compare(many: u64, first: u64) -> Result<(), ExitCode> {
             .case(seed, &case, &lines, seed % 8 == 0)
             .map_err(|difference| report(&format!("seed {seed}"), &case, &difference))?;
     }
-    let Comparison { reach, counts, .. } = comparison;
-    print!("{reach}");
-    println!(
-        "single events, each with its whole state and history: {}; with decision and remaining: {}",
-        counts.events, counts.asked
-    );
-    println!(
-        "events by runs of a few records: {}; sheets written: {}",
-        counts.records, counts.written
-    );
-    println!(
-        "states changed on purpose: {} refused, {} still sound; {} with each byte at all other values, flags and policies at other values than 0 and 1: {}",
-        counts.refused, counts.sound, counts.thorough, counts.flags
-    );
-    let [policy, slice, absent] = counts.unfit;
-    println!(
-        "refused for a policy alone: {policy}, a slice alone: {slice}, one of them in an absent thread: {absent}"
-    );
-    let [head, tail] = counts.moved;
-    println!("changed states where a new priority moved a thread: {head} to the head, {tail} to the tail");
-    let complete = reach.complete()
-        && reach
-            .refusals
-            .iter()
-            .chain(&counts.unfit)
-            .chain(&counts.moved)
-            .all(|&count| count > 0);
+    let Comparison { reach, tally, .. } = comparison;
+    print!("{reach}{tally}");
+    let refusals = reach.refusals.iter().all(|&count| count > 0);
+    let complete = refusals && reach.complete() && tally.complete();
     if !complete {
         println!("compare: some refusal, mode or cause was not reached");
         return Err(ExitCode::FAILURE);

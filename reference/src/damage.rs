@@ -45,7 +45,11 @@ pub fn saved(random: &mut Random, Saved { state, history }: &mut Saved) {
         6 => add(&mut state.slot, by),
         7 => add(&mut state.since, by),
         8 => add(&mut state.queued, by),
-        9 => state.running = random.pick(&[t as u32, 64, 255, 256, by]),
+        9 => {
+            // Also another one of the line, which is mostly sound.
+            let other = state.queue[t % (state.queued as usize).clamp(1, 64)];
+            state.running = random.pick(&[t as u32, other.into(), 64, 255, 256, by]);
+        }
         10 => state.exists[t] ^= byte & 3,
         11 => state.ready[t] ^= byte & 3,
         12 => state.partitions[t] = byte % 17,

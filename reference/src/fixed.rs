@@ -38,8 +38,20 @@ pub fn ready(thread: u8, stamp: u32) -> Event {
     (3, thread, 0, 0, stamp, 0, 0)
 }
 
+fn block(thread: u8, stamp: u32) -> Event {
+    (4, thread, 0, 0, stamp, 0, 0)
+}
+
 fn set(thread: u8, priority: u8, stamp: u32) -> Event {
     (5, thread, 0, priority, stamp, 0, 0)
+}
+
+fn end(thread: u8, stamp: u32) -> Event {
+    (6, thread, 0, 0, stamp, 0, 0)
+}
+
+fn resume(stamp: u32) -> Event {
+    (7, 0, 0, 0, stamp, 0, 0)
 }
 
 pub fn bytes(events: &[Event]) -> Vec<u8> {
@@ -109,7 +121,7 @@ pub fn cases() -> Vec<Fixed> {
         fixed(
             "a stamp that wraps",
             halves(4, 1000),
-            &[(7, 0, 0, 0, 4_294_967_290, 0, 0), tick(4)],
+            &[resume(4_294_967_290), tick(4)],
             "00 0 00 255\n00 0 00 255\n",
         ),
         fixed(
@@ -275,6 +287,116 @@ pub fn cases() -> Vec<Fixed> {
             ],
             "00 2 00 000\n00 2 00 001\n00 2 00 001\n00 2 00 001\n00 2 00 001\n\
              00 2 00 001\n00 2 00 000\n00 2 00 000\n00 2 00 000\n00 2 00 001\n",
+        ),
+        fixed(
+            "equal jobs, who runs goes on in a tie",
+            halves(100, 1000),
+            &[
+                create(0, 0, 10, 0, 1),
+                create(1, 1, 10, 0, 1),
+                ready(0, 0),
+                ready(1, 0),
+                tick(1000),
+                tick(2000),
+                tick(3000),
+                tick(4000),
+                tick(5000),
+                tick(6000),
+                tick(7000),
+                tick(8000),
+            ],
+            "00 1 00 000\n00 2 00 000\n00 2 01 001\n00 2 01 001\n00 2 00 000\n\
+             00 2 00 000\n00 2 01 001\n00 2 01 001\n00 2 00 000\n00 2 00 000\n",
+        ),
+        fixed(
+            "who ran blocks and ends, and its partition goes on",
+            halves(4, 1000),
+            &[
+                create(0, 0, 10, 0, 1),
+                create(1, 1, 10, 0, 1),
+                create(3, 1, 10, 0, 1),
+                ready(1, 0),
+                ready(3, 0),
+                ready(0, 0),
+                block(1, 0),
+                ready(1, 0),
+                end(3, 0),
+                end(1, 0),
+            ],
+            "00 1 01 001\n00 1 01 001\n00 2 01 001\n00 2 01 003\n00 2 01 003\n\
+             00 2 01 001\n00 1 00 000\n",
+        ),
+        fixed(
+            "a tie after a resume",
+            halves(4, 1000),
+            &[
+                create(0, 0, 10, 0, 1),
+                create(1, 1, 10, 0, 1),
+                ready(0, 0),
+                ready(1, 0),
+                tick(1000),
+                resume(77),
+                tick(77),
+            ],
+            "00 2 00 000\n00 2 01 001\n00 2 01 001\n00 2 01 001\n",
+        ),
+        fixed(
+            "who runs is not among the best: the lowest of them",
+            sheet(4, 1000, 0, 0, &[40, 30, 30]),
+            &[
+                create(0, 0, 10, 0, 1),
+                create(1, 1, 10, 0, 1),
+                create(2, 2, 10, 0, 1),
+                ready(2, 0),
+                ready(1, 0),
+                ready(0, 0),
+                set(2, 9, 0),
+                set(2, 10, 0),
+                set(0, 9, 0),
+                set(0, 10, 0),
+                tick(1),
+            ],
+            "00 1 02 002\n00 1 02 002\n00 2 02 002\n00 2 00 000\n00 2 00 000\n\
+             00 2 01 001\n00 2 01 001\n00 2 00 000\n",
+        ),
+        fixed(
+            "a tie in free time by ratio, where priorities do not count",
+            sheet(4, 1000, 1, 0, &[40, 40, 20]),
+            &[
+                create(0, 0, 20, 0, 1),
+                create(1, 1, 10, 0, 1),
+                ready(1, 0),
+                ready(0, 0),
+            ],
+            "00 1 01 001\n00 1 01 001\n",
+        ),
+        fixed(
+            "a tie at limit",
+            halves(2, 100),
+            &[
+                create(0, 0, 20, 0, 1),
+                create(1, 1, 10, 0, 1),
+                ready(1, 0),
+                tick(100),
+                ready(0, 100),
+                set(0, 20, 200),
+                set(0, 20, 201),
+                set(1, 10, 202),
+            ],
+            "00 2 00 000\n00 3 00 000\n00 3 01 001\n00 3 01 001\n",
+        ),
+        fixed(
+            "a tie of two without a share",
+            sheet(4, 1000, 0, 0, &[0, 0, 100]),
+            &[
+                create(0, 0, 10, 0, 1),
+                create(1, 1, 10, 0, 1),
+                ready(1, 0),
+                tick(700),
+                ready(0, 700),
+                tick(1500),
+            ],
+            "00 1 01 001\n00 1 01 001\n00 1 01 001\n00 1 01 001\n",
         ),
     ]
 }

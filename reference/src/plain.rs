@@ -51,9 +51,11 @@ impl Plain {
     }
 
     pub fn event(&mut self, record: &[u8]) -> Line {
+        // The event itself may block or end the thread that runs.
+        let favoured = self.favoured();
         match self.accept(record) {
             Ok(()) => {
-                let decision = self.decision();
+                let decision = self.decide(favoured);
                 self.running = (decision.mode != 0).then_some(decision.thread.into());
                 decision
             }
@@ -126,8 +128,8 @@ impl Plain {
         if kind == 3 && ready || kind == 4 && !ready {
             return Err(13);
         }
-        if let Some(record) = self.running.and_then(|t| self.threads[t]) {
-            self.history[usize::from(record.partition)][self.slot] += elapsed;
+        if let Some(p) = self.favoured() {
+            self.history[p][self.slot] += elapsed;
         }
         self.since += elapsed;
         self.stamp = stamp;
@@ -235,24 +237,58 @@ impl Plain {
         }
     }
 
-    pub fn decision(&self) -> Line {
-        let (mode, partition, thread) = self.decide();
-        Line {
-            refusal: 0,
-            mode,
-            partition: partition as u8,
-            thread: thread as u8,
+    /// The better of two competing partitions is the greater.
+    fn compare(&self, mode: u8, a: usize, b: usize) -> Ordering {
+        let budget = self.has_budget(a).cmp(&self.has_budget(b));
+        let priority = self.top(a).cmp(&self.top(b));
+        let fraction = self.by_fraction(a, b);
+        match (mode, self.settings.policy) {
+            (1, 1) => budget.then(fraction),
+            (1, _) | (2, _) => budget.then(priority).then(fraction),
+            _ => fraction,
         }
     }
 
-    fn decide(&self) -> (u8, usize, usize) {
+    /// The partition that the running thread works for: it is charged, and a
+    /// tie is its.
+    fn favoured(&self) -> Option<usize> {
+        let thread = self.threads[self.running?]?;
+        Some(thread.partition.into())
+    }
+
+    /// The partitions that are tied for best as things stand, lowest first.
+    pub fn tied(&self) -> Vec<usize> {
+        self.best().1
+    }
+
+    /// What the rules give now, a tie by the thread that runs now.
+    pub fn decision(&self) -> Line {
+        self.decide(self.favoured())
+    }
+
+    /// Of those tied for best the favoured one wins, or else the lowest.
+    fn decide(&self, favoured: Option<usize>) -> Line {
+        let (mode, tied) = self.best();
+        let lowest = tied.first().copied();
+        let winner = favoured.filter(|p| tied.contains(p)).or(lowest);
+        let first = winner.map_or(NO_THREAD, |p| self.first(p));
+        Line {
+            refusal: 0,
+            mode,
+            partition: winner.unwrap_or(0) as u8,
+            thread: first,
+        }
+    }
+
+    /// The mode, and the partitions that are tied for best in it.
+    fn best(&self) -> (u8, Vec<usize>) {
         let count = self.budgets.len();
-        let competing: Vec<usize> = (0..count)
+        let mut competing: Vec<usize> = (0..count)
             .filter(|&p| !self.runnable(p).is_empty())
             .collect();
         let asleep = |p: usize| self.budgets[p] > 0 && !competing.contains(&p);
         let mode = if competing.is_empty() {
-            return (0, 0, 255);
+            return (0, competing);
         } else if (0..count).any(asleep) {
             1
         } else if competing.iter().any(|&p| self.has_budget(p)) {
@@ -260,26 +296,20 @@ impl Plain {
         } else {
             3
         };
-        let mut winner = competing[0];
-        for &p in &competing[1..] {
-            let budget = self.has_budget(p).cmp(&self.has_budget(winner));
-            let priority = self.top(p).cmp(&self.top(winner));
-            let fraction = self.by_fraction(p, winner);
-            let order = match (mode, self.settings.policy) {
-                (1, 1) => budget.then(fraction),
-                (1, _) | (2, _) => budget.then(priority).then(fraction),
-                _ => fraction,
-            };
-            if order == Ordering::Greater {
-                winner = p;
-            }
-        }
-        let top = self.top(winner);
+        let better = |&a: &usize, &b: &usize| self.compare(mode, a, b);
+        let best = competing.iter().copied().max_by(better).unwrap();
+        competing.retain(|&p| self.compare(mode, p, best) == Ordering::Equal);
+        (mode, competing)
+    }
+
+    /// The first in the line with the top priority of a competing partition.
+    fn first(&self, p: usize) -> u8 {
+        let top = self.top(p);
         let first = self
-            .runnable(winner)
+            .runnable(p)
             .into_iter()
             .find(|&(_, priority)| priority == top);
-        (mode, winner, first.unwrap().0)
+        first.unwrap().0 as u8
     }
 }
 

@@ -8,6 +8,7 @@ use crate::record::{Event, Kind, POLICY};
 use crate::sheet::{read_sheet, Settings};
 use crate::threads::Threads;
 use crate::{refusal, NO_THREAD, RECORD};
+use std::cmp::Ordering;
 
 #[derive(Clone, Copy, Debug, PartialEq, Eq)]
 pub enum Mode {
@@ -95,13 +96,14 @@ impl Scheduler {
         written
     }
 
-    /// The decision the rules give now. It is the last event's, too.
+    /// The decision the rules give now, a tie by the thread that runs now. It is
+    /// the last event's, too: what that one chose is among the best.
     pub fn decision(&self) -> Line {
         let Choice {
             mode,
             partition,
             thread,
-        } = self.decide();
+        } = self.decide(self.favoured());
         Line {
             refusal: 0,
             mode: mode as u8,
@@ -133,6 +135,11 @@ impl Scheduler {
             accounts.used(partition),
             accounts.leaving(partition),
         )
+    }
+
+    /// Bit p: p is tied for best as things stand, or is the best alone.
+    pub fn tied(&self) -> u16 {
+        self.best().1
     }
 
     /// Bit t: thread t exists.
@@ -188,47 +195,57 @@ impl Scheduler {
             }
         }
         self.stamp = event.stamp;
-        self.choice = self.decide();
+        // The last choice is still that of the thread that ran until now, also
+        // where it has just left the line.
+        self.choice = self.decide(self.favoured());
         Ok(self.choice)
     }
 
-    /// Sieves the competing partitions: first by budget, then by priority
-    /// where the mode asks for it, then by fraction.
+    /// The bit of the partition that the running thread works for; none while
+    /// idle.
     #[inline]
-    fn decide(&self) -> Choice {
-        let competing = self.threads.competing();
-        if competing == 0 {
+    fn favoured(&self) -> u16 {
+        u16::from(self.choice.mode != Mode::Idle) << self.choice.partition
+    }
+
+    /// Of those tied for best the favoured one wins, or else the lowest.
+    #[inline]
+    fn decide(&self, favoured: u16) -> Choice {
+        let (mode, tied) = self.best();
+        if tied == 0 {
             return IDLE;
         }
-        let solvent = competing & self.accounts.solvent();
-        let (mode, by_priority) = if self.accounts.funded() & !competing != 0 {
-            (Mode::FreeTime, !self.by_ratio)
-        } else if solvent != 0 {
-            (Mode::Underload, true)
-        } else {
-            (Mode::AtLimit, false)
-        };
-        // At limit nobody has budget, and all stay in.
-        let mut left = if solvent != 0 { solvent } else { competing };
-        if by_priority {
-            left = self.highest(left);
-        }
-        // Bits from below, and only a better one displaces: a tie stays with
-        // the lowest number.
-        let mut winner = left.trailing_zeros() as usize;
-        left &= left - 1;
-        while left != 0 {
-            let p = left.trailing_zeros() as usize;
-            left &= left - 1;
-            if self.accounts.better(p, winner) {
-                winner = p;
-            }
-        }
+        let winner = prefer(tied, favoured).trailing_zeros() as usize;
         Choice {
             mode,
             partition: winner as u8,
             thread: self.threads.first(winner),
         }
+    }
+
+    /// The mode, and the bits of those partitions that are tied for best in it:
+    /// what is left of the competing ones after a sieve by budget, one by
+    /// priority where the mode asks for it, and one by fraction.
+    #[inline]
+    fn best(&self) -> (Mode, u16) {
+        let competing = self.threads.competing();
+        if competing == 0 {
+            return (Mode::Idle, 0);
+        }
+        let solvent = self.accounts.solvent();
+        let (mode, by_priority) = if self.accounts.funded() & !competing != 0 {
+            (Mode::FreeTime, !self.by_ratio)
+        } else if competing & solvent != 0 {
+            (Mode::Underload, true)
+        } else {
+            (Mode::AtLimit, false)
+        };
+        // At limit nobody has budget, and all stay in.
+        let mut left = prefer(competing, solvent);
+        if by_priority {
+            left = self.highest(left);
+        }
+        (mode, self.least_used(left))
     }
 
     /// Those of some competing partitions whose top priority is highest.
@@ -247,6 +264,33 @@ impl Scheduler {
             }
         }
         kept
+    }
+
+    /// Those of some partitions whose fraction used is smallest.
+    #[inline]
+    fn least_used(&self, mut left: u16) -> u16 {
+        let mut best = left.trailing_zeros() as usize;
+        let mut kept = 1 << best;
+        left &= left - 1;
+        while left != 0 {
+            let p = left.trailing_zeros() as usize;
+            left &= left - 1;
+            match self.accounts.by_fraction(p, best) {
+                Ordering::Greater => (kept, best) = (1 << p, p),
+                Ordering::Equal => kept |= 1 << p,
+                Ordering::Less => {}
+            }
+        }
+        kept
+    }
+}
+
+/// Those of a set that are in another set too, or all of it where none is.
+#[inline]
+fn prefer(set: u16, other: u16) -> u16 {
+    match set & other {
+        0 => set,
+        both => both,
     }
 }
 

@@ -12,6 +12,7 @@ mod random;
 mod report;
 mod sheets;
 mod slices;
+mod ties;
 
 pub use random::Random;
 pub use report::{write_event, Reach};

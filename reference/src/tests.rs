@@ -1,5 +1,5 @@
 //! The worked run, both sides of each line, the slips, time slices, priorities
-//! that change, and the comparison with the plain model.
+//! that change, ties, and the comparison with the plain model.
 
 use crate::accounts::Accounts;
 use crate::plain::Plain;
@@ -7,6 +7,7 @@ use crate::streams::{answer, stream, Reach};
 use crate::{
     read_sheet, write_sheet, Balance, Cycles, Kept, Line, Percent, Scheduler, Settings, Ticks,
 };
+use std::cmp::Ordering;
 
 // Helpers -------------------------------------------------------------------
 
@@ -330,16 +331,34 @@ fn quarter_of_a_tick() {
 
 #[test]
 fn fractions() {
+    let both_ways = |accounts: &Accounts, a, b| {
+        let there = accounts.by_fraction(a, b);
+        assert_eq!(accounts.by_fraction(b, a), there.reverse());
+        there
+    };
     // Used 40 of 80 against 5 of 20 and against 10 of 20.
-    let mut accounts = Accounts::new(&settings(2, 100, 0, 0, &[40, 10, 50]));
+    let mut accounts = Accounts::new(&settings(2, 100, 0, 0, &[40, 10, 50, 0, 0]));
     accounts.charge(0, Cycles(40));
     accounts.charge(1, Cycles(5));
-    assert!(accounts.better(1, 0) && !accounts.better(0, 1));
+    assert_eq!(both_ways(&accounts, 1, 0), Ordering::Greater);
     accounts.charge(1, Cycles(5));
-    assert!(!accounts.better(1, 0) && !accounts.better(0, 1));
+    assert_eq!(both_ways(&accounts, 1, 0), Ordering::Equal);
+    // Budget 0, used 0 against budget 80, used 200; two of budget 0.
+    accounts.charge(0, Cycles(160));
+    assert_eq!(both_ways(&accounts, 0, 3), Ordering::Greater);
+    accounts.charge(4, Cycles(7));
+    assert_eq!(both_ways(&accounts, 3, 4), Ordering::Equal);
     // The same seen from outside, forty times as large, so that both have
-    // budget: 1600 of 3200 against 200, 399, 400 and 401 of 800.
-    for (second, winner) in [(200, 1), (399, 1), (400, 0), (401, 0)] {
+    // budget: 1600 of 3200 against 200, 399, 400 and 401 of 800. In the tie
+    // the one that runs goes on, whichever it is.
+    let cases = [
+        (200, 0, 1),
+        (399, 0, 1),
+        (400, 0, 0),
+        (400, 1, 1),
+        (401, 1, 0),
+    ];
+    for (second, runs, winner) in cases {
         let mut s = start(4, 1000, 0, 0, &[80, 20]);
         took(&mut s, create(0, 0, 10, 1, 0));
         took(&mut s, create(1, 1, 10, 1, 0));
@@ -349,9 +368,10 @@ fn fractions() {
         took(&mut s, ready(1, 1600));
         took(&mut s, tick(1600));
         took(&mut s, block(1, 1600 + second));
-        took(&mut s, ready(0, 1600 + second));
+        took(&mut s, ready(runs, 1600 + second));
         // Both have budget and the same priority.
-        assert_eq!(took(&mut s, ready(1, 1600 + second)), (2, winner, winner));
+        let both = took(&mut s, ready(1 - runs, 1600 + second));
+        assert_eq!(both, (2, winner, winner));
         assert_eq!(remaining(&s, 0), 1600);
         assert_eq!(remaining(&s, 1), 800 - i64::from(second));
     }
@@ -373,13 +393,14 @@ fn no_budget_is_worst() {
     assert_eq!(took(&mut s, set(1, 1, 400)), (3, 1, 1));
     assert_eq!(remaining(&s, 1), -200);
     assert_eq!(join(&mut s, 0, 0, 255), (3, 1, 1));
-    // Two such are equal, whatever they used: the lower number runs.
+    // Two such are equal, whatever they used: the one that runs goes on.
     let mut s = start(2, 100, 0, 0, &[0, 0, 100]);
     join(&mut s, 1, 1, 7);
     assert_eq!(took(&mut s, tick(150)), (1, 1, 1));
-    assert_eq!(join(&mut s, 0, 0, 7), (1, 0, 0));
-    assert_eq!(took(&mut s, set(0, 7, 250)), (1, 0, 0));
-    assert_eq!(took(&mut s, set(0, 6, 250)), (1, 1, 1));
+    assert_eq!(join(&mut s, 0, 0, 7), (1, 1, 1));
+    assert_eq!(took(&mut s, set(0, 8, 250)), (1, 0, 0));
+    assert_eq!(took(&mut s, set(0, 7, 300)), (1, 0, 0));
+    assert_eq!(took(&mut s, set(1, 8, 310)), (1, 1, 1));
 }
 
 #[test]
@@ -675,14 +696,14 @@ fn resume_forgets_and_keeps() {
     join(&mut s, 9, 1, 1);
     took(&mut s, tick(100));
     took(&mut s, set(4, 1, 190));
-    assert_eq!(took(&mut s, resume(7)), (2, 0, 4));
+    assert_eq!(took(&mut s, resume(7)), (2, 1, 9));
     assert_eq!((remaining(&s, 0), remaining(&s, 1)), (150, 150));
     assert_eq!((s.stamp(), s.since_tick()), (7, Cycles(0)));
     assert_eq!(s.ready(), 1 << 4 | 1 << 2 | 1 << 9);
-    assert_eq!(took(&mut s, end(4, 7)), (2, 0, 2));
     // The running one is charged from the resume on.
-    took(&mut s, tick(57));
-    assert_eq!((remaining(&s, 0), remaining(&s, 1)), (100, 150));
+    assert_eq!(took(&mut s, tick(57)), (2, 0, 4));
+    assert_eq!((remaining(&s, 0), remaining(&s, 1)), (150, 100));
+    assert_eq!(took(&mut s, end(4, 57)), (2, 0, 2));
 }
 
 #[test]
@@ -1082,6 +1103,189 @@ fn a_refused_new_priority_moves_nobody() {
     assert_eq!((s.line(), s.running()), (vec![1, 0], 0));
 }
 
+// Ties ----------------------------------------------------------------------
+//
+// The words quoted are request (iii)'s of document 02.
+
+/// Partitions with these shares and a thread each, ready in this order, all
+/// with priority 10, and nobody has used anything.
+fn level(shares: &[u32], order: &[u8]) -> Scheduler {
+    let mut s = start(100, 1000, 0, 0, shares);
+    for &p in order {
+        join(&mut s, p, p, 10);
+    }
+    s
+}
+
+#[test]
+fn equal_jobs_do_not_flicker() {
+    // "In a tie the lowest partition number always wins, and the screen
+    // flickers between jobs." At every second tick both have used as much, and
+    // now the one that runs goes on. It was 1, 0, 1, 0 and so on.
+    let mut s = level(&[50, 50], &[0, 1]);
+    let runs: Vec<u8> = (0..12).map(|_| next(&mut s)).collect();
+    assert_eq!(runs, [1, 1, 0, 0, 1, 1, 0, 0, 1, 1, 0, 0]);
+}
+
+#[test]
+fn a_newcomer_that_is_equal_waits() {
+    // "the partition for which the thread running until this event was working
+    // when the event came wins"
+    for first in 0..4 {
+        let mut order = vec![first];
+        order.extend((0..4).filter(|&p| p != first));
+        let mut s = level(&[25, 25, 25, 25], &order);
+        assert_eq!(s.tied(), 0b1111);
+        assert_eq!(s.running(), first);
+        // So at a tick of no time, at a create, and at a second newcomer.
+        assert_eq!(took(&mut s, tick(0)), (2, first, first));
+        assert_eq!(took(&mut s, create(9, 0, 10, 1, 0)), (2, first, first));
+        assert_eq!(took(&mut s, ready(9, 0)), (2, first, first));
+        // What is better wins, by one cycle or by priority.
+        let other = u8::from(first == 0);
+        assert_eq!(took(&mut s, tick(1)), (2, other, other));
+    }
+}
+
+#[test]
+fn who_is_favoured_has_to_be_among_the_best() {
+    // "if it is one of them; otherwise the lowest number"
+    let mut s = level(&[40, 30, 30], &[2, 1, 0]);
+    assert_eq!((s.tied(), s.running()), (0b111, 2));
+    // Partition 2 runs and is worse: 0 and 1 are tied.
+    assert_eq!(took(&mut s, set(2, 9, 0)), (2, 0, 0));
+    assert_eq!(took(&mut s, set(2, 10, 0)), (2, 0, 0));
+    // Partition 0 runs and is worse: 1 and 2 are tied.
+    assert_eq!(took(&mut s, set(0, 9, 0)), (2, 1, 1));
+    assert_eq!(took(&mut s, set(0, 10, 0)), (2, 1, 1));
+    // Charged a cycle, it is worse too, and 0 and 2 are tied.
+    assert_eq!(took(&mut s, tick(1)), (2, 0, 0));
+    // The better of two is chosen, whoever runs.
+    assert_eq!(took(&mut s, set(2, 11, 1)), (2, 2, 2));
+}
+
+#[test]
+fn the_thread_that_ran_may_leave_by_the_event() {
+    // "the thread running until this event": it blocks or ends by it, and its
+    // partition has another one, as good.
+    let mut s = level(&[50, 50], &[1]);
+    join(&mut s, 3, 1, 10);
+    assert_eq!(join(&mut s, 0, 0, 10), (2, 1, 1));
+    assert_eq!(took(&mut s, block(1, 0)), (2, 1, 3));
+    assert_eq!(took(&mut s, ready(1, 0)), (2, 1, 3));
+    assert_eq!(took(&mut s, end(3, 0)), (2, 1, 1));
+    // The last one leaves: the partition doesn't compete and can't win. When
+    // it is back, the other one is the one that runs.
+    assert_eq!(took(&mut s, block(1, 0)), (1, 0, 0));
+    assert_eq!(took(&mut s, ready(1, 0)), (2, 0, 0));
+    // Of two that stay, the lower one.
+    let mut s = level(&[40, 30, 30], &[2, 1, 0]);
+    assert_eq!(took(&mut s, end(2, 0)), (1, 0, 0));
+    // A thread of another core is none for its partition.
+    let mut s = level(&[40, 30, 30], &[2, 1, 0]);
+    took(&mut s, create(7, 2, 10, 2, 0));
+    took(&mut s, ready(7, 0));
+    assert_eq!(took(&mut s, block(2, 0)), (1, 0, 0));
+}
+
+#[test]
+fn a_resume_keeps_who_runs() {
+    // "After a resume the same rule holds."
+    let mut s = level(&[50, 50], &[0, 1]);
+    assert_eq!(next(&mut s), 1);
+    assert_eq!(took(&mut s, resume(5)), (2, 1, 1));
+    assert_eq!(s.tied(), 0b11);
+    assert_eq!(took(&mut s, resume(0)), (2, 1, 1));
+    // Partition 1 runs because 0 has used up its budget, and after a resume it
+    // is worse.
+    let mut s = start(2, 1000, 0, 0, &[50, 50]);
+    join(&mut s, 0, 0, 20);
+    join(&mut s, 1, 1, 10);
+    assert_eq!(took(&mut s, tick(1000)), (2, 1, 1));
+    assert_eq!(took(&mut s, resume(7)), (2, 0, 0));
+    // Nobody runs, and nobody does after it.
+    let mut s = start(2, 1000, 0, 0, &[50, 50]);
+    assert_eq!(took(&mut s, resume(7)), (0, 0, 255));
+}
+
+#[test]
+fn the_partition_is_favoured_and_not_the_thread() {
+    // 1 and 3 take turns in partition 1, which goes on when 1's slice ends.
+    let mut s = start(100, 1000, 0, 0, &[50, 50]);
+    join_in_turns(&mut s, 1, 1, 10);
+    join_in_turns(&mut s, 3, 1, 10);
+    join(&mut s, 0, 0, 10);
+    let ticks: Vec<_> = (0..5).map(|_| took(&mut s, tick(0))).collect();
+    let wanted = [(2, 1, 1), (2, 1, 1), (2, 1, 1), (2, 1, 3), (2, 1, 3)];
+    assert_eq!(ticks, wanted);
+    // Lowered below the other thread of its partition, which is as good as 0.
+    assert_eq!(took(&mut s, set(3, 9, 0)), (2, 1, 1));
+}
+
+#[test]
+fn ties_in_every_mode() {
+    // Free time, as partition 2 sleeps: by priority and fraction, and by ratio
+    // by the fraction alone.
+    for (policy, priority, winner) in [(0, 10, 1), (0, 11, 0), (1, 10, 1), (1, 11, 1)] {
+        let mut s = start(4, 1000, policy, 0, &[40, 40, 20]);
+        join(&mut s, 1, 1, 10);
+        assert_eq!(join(&mut s, 0, 0, priority), (1, winner, winner));
+    }
+    // Underload: by priority and fraction in both policies.
+    for (policy, priority, winner) in [(0, 10, 1), (0, 11, 0), (1, 10, 1), (1, 11, 0)] {
+        let mut s = start(4, 1000, policy, 0, &[50, 50]);
+        join(&mut s, 1, 1, 10);
+        assert_eq!(join(&mut s, 0, 0, priority), (2, winner, winner));
+    }
+    // At limit, by the fraction alone. Budgets 100 and 100.
+    let mut s = start(2, 100, 0, 0, &[50, 50]);
+    join(&mut s, 1, 1, 10);
+    took(&mut s, tick(100));
+    assert_eq!(join(&mut s, 0, 0, 20), (2, 0, 0));
+    assert_eq!(took(&mut s, set(0, 20, 200)), (3, 0, 0));
+    assert_eq!(took(&mut s, set(0, 20, 201)), (3, 1, 1));
+    assert_eq!(took(&mut s, set(1, 10, 202)), (3, 1, 1));
+    assert_eq!(s.tied(), 0b11);
+}
+
+#[test]
+fn a_given_state_says_who_is_favoured() {
+    // "The decision door takes the state's running thread for it." While idle
+    // there is none, and "otherwise the lowest number" wins.
+    let mut given = Plain::new(&settings(4, 1000, 0, 0, &[40, 30, 30]));
+    for t in 0..3 {
+        given.event(&create(t, t, 10, 1, 0));
+        given.event(&create(10 + t, t, 10, 1, 0));
+        given.event(&ready(t, 0));
+        given.event(&ready(10 + t, 0));
+    }
+    let states = [(None, 0), (Some(0), 0), (Some(1), 1), (Some(12), 2)];
+    for (running, winner) in states {
+        given.running = running;
+        assert_eq!(given.tied(), [0, 1, 2]);
+        let first = |line: Line| (line.mode, line.partition, line.thread);
+        assert_eq!(first(given.decision()), (2, winner, winner));
+        for event in [tick(0), create(9, 0, 10, 1, 0), resume(77)] {
+            assert_eq!(first(given.clone().event(&event)), (2, winner, winner));
+        }
+        let Some(t) = running else { continue };
+        // It leaves by the event, and its partition has another thread.
+        for event in [block(t as u8, 0), end(t as u8, 0)] {
+            let mut after = given.clone();
+            assert_eq!(after.event(&event).partition, winner);
+            assert_eq!(after.decision().partition, winner);
+        }
+    }
+    // The favoured one is worse: by priority, and by the cycle that it is
+    // charged.
+    given.running = Some(1);
+    given.threads[0].as_mut().unwrap().priority = 11;
+    assert_eq!(given.decision().partition, 0);
+    given.threads[0].as_mut().unwrap().priority = 10;
+    assert_eq!(given.decision().partition, 1);
+    assert_eq!(given.event(&tick(1)).partition, 0);
+}
+
 // Streams -------------------------------------------------------------------
 
 /// Two schedulers keep the same things.
@@ -1117,11 +1321,16 @@ fn streams_agree_with_the_plain_model() {
             let line = fast.event(event);
             assert_eq!(line, plain.event(event), "seed {seed}, event {number}");
             lines += 1;
+            // The decision on what an event has left is the event's own.
+            if line.refusal == 0 {
+                assert_eq!([fast.decision(), plain.decision()], [line; 2]);
+            }
             if number % 7 == 0 {
                 for p in 0..fast.settings().partitions {
                     assert_eq!(fast.remaining(p), Ok(Balance(plain.remaining(p))));
                 }
-                assert_eq!(fast.decision(), plain.decision());
+                let tied: Vec<usize> = (0..16).filter(|p| fast.tied() >> p & 1 == 1).collect();
+                assert_eq!(tied, plain.tied());
                 same_kept(&fast, &plain);
             }
         }

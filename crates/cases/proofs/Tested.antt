@@ -1,5 +1,5 @@
--- THE TESTS: the runs of Runs give their lines, the threads of Places stand where they must, and the numbers of Refusals are the paper's, by
--- computation.
+-- THE TESTS: the runs of Runs give their lines, the threads of Places stand where they must, the ties of Ties are won by whom they must, and the
+-- numbers of Refusals are the paper's, by computation.
 use mathlib.Core.Path.{_≡_, refl}
 use mathlib.Core.List.{[], _∷_, map}
 use lib.ListN.{take, drop}
@@ -7,8 +7,9 @@ use lib.IntN.{pos, negsuc}
 use Rattle.model.specs.Doors.{decision}
 use Rattle.cases.specs.Written.{line, refusal}
 use Rattle.cases.specs.Computed.{lines, remains}
-use Rattle.cases.specs.Runs.{computed, expected, runs, slices, changes}
+use Rattle.cases.specs.Runs.{computed, expected, runs, slices, changes, ties}
 use Rattle.cases.specs.Places.{lineAfter, places}
+use Rattle.cases.specs.Ties.{answersOf, linesOf, given}
 use Rattle.cases.specs.Refusals.{computedOf, papersOf, kinds, reserved, states, soundness, events, sheets, doors, buffer, zeros, lent, lentAs, left, none}
 
 every-run : map computed runs ≡ map expected runs
@@ -23,9 +24,17 @@ every-change : map computed changes ≡ map expected changes
 unfolding lines
 every-change = refl
 
+every-tie : map computed ties ≡ map expected ties
+unfolding lines
+every-tie = refl
+
 every-place : map lineAfter places ≡ map (λ p. p .line) places
 unfolding lines
 every-place = refl
+
+every-given-tie : map answersOf given ≡ map linesOf given
+unfolding remains
+every-given-tie = refl
 
 every-kind : computedOf kinds ≡ papersOf kinds
 unfolding lines

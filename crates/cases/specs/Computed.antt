@@ -2,6 +2,7 @@
 -- the lines `unfolding` name, so that it computes as far as the answer.
 use Prim.Native.Nat.{ℕ}
 use mathlib.Core.List.{List, map}
+use mathlib.Core.Option.{Option}
 use Rattle.lists.specs.Lists
 use Rattle.units.specs.Units
 use Rattle.sheet.specs.Limits
@@ -24,7 +25,7 @@ use Rattle.model.specs.Answers.{Line, answerLine, Remainder}
 -- the number by which a sheet's bytes are refused
 unfoldable pub sheetNumber : List ℕ → ℕ
 unfolding Lists.below Lists.any Lists.all Lists.keep Lists.first Lists.maximum Lists.distinct
-    Units.budgetOf Units.elapsedOf Units.remainingOf Units.hasBudgetOf Units.smallerFraction
+    Units.budgetOf Units.elapsedOf Units.remainingOf Units.hasBudgetOf Units.compareNumbers Units.compareFlags Units.compareFractions
     Limits.windowFits Limits.tickFits Limits.policyAndCoreFit Limits.countFits Limits.refusedNumbers
     Records.numberFrom Records.framed Records.fieldOf Records.digitsOf Records.recordOf
     Order.letterAt Order.wholeRecords Order.fieldAt Order.valueAt Order.recordsFormed Order.recordsOf
@@ -32,12 +33,12 @@ unfolding Lists.below Lists.any Lists.all Lists.keep Lists.first Lists.maximum L
     Sheet.settingsOf Sheet.refusedSheet Sheet.valueOf Sheet.sheetOf Sheet.refusedWrite Sheet.lengthWritten Sheet.bufferWritten
 sheetNumber bytes = Sheet.refusedSheet bytes
 
--- the decision for a state
-unfoldable pub decided : State.State → Policy.Decided
-unfolding sheetNumber State.allows Policy.candidates Policy.competing Policy.topPriority Policy.remaining Policy.hasBudget Policy.betterFraction
-    Policy.mode Policy.byBudget Policy.byPriority Policy.ratioPolicy Policy.before Policy.better Policy.best Policy.winner Policy.chosen
-    Policy.decideFor Policy.decide
-decided s = Policy.decide s
+-- the decision for a state, where a partition is favoured, or none
+unfoldable pub decided : State.State → Option ℕ → Policy.Decided
+unfolding sheetNumber State.allows Policy.candidates Policy.competing Policy.topPriority Policy.remaining Policy.hasBudget Policy.mode Policy.byBudget
+    Policy.byPriority Policy.byFraction Policy._then_ Policy.ratioPolicy Policy.compare Policy.favours Policy.wins Policy.better Policy.best
+    Policy.winner Policy.chosen Policy.decideFor Policy.decide
+decided s f = Policy.decide s f
 
 -- the lines of the answers to a list of events, from a state and its history
 unfoldable pub lines : Step.Saved → List (List ℕ) → List Line
@@ -50,5 +51,5 @@ lines v events = map (λ e. answerLine (e .answer)) (Run.run v events)
 
 -- the remaining door's answer, and the decision door's, for what is lent
 unfoldable pub remains : Lent.Lent → ℕ → Remainder
-unfolding lines Arrays.threadsIn Arrays.plain Lent.refusedArrays Doors.refusedStart Doors.decision Doors.refusedRemaining Doors.remainder
+unfolding lines Arrays.threadsIn Arrays.plain Lent.refusedArrays Doors.refusedStart Doors.answerTo Doors.decision Doors.refusedRemaining Doors.remainder
 remains x p = Doors.remainder x p

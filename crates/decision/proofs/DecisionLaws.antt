@@ -2,7 +2,7 @@
 use mathlib.Core.Logic.{_≢_}
 use mathlib.Core.Path.{_≡_, refl, sym, ap, _∙_}
 use Prim.Native.Nat.{ℕ, _+_, _-_, _≤_, _<_, _^_}
-use mathlib.Core.Bool.{Bool, true, false, not, cond, _&&_, _||_}
+use mathlib.Core.Bool.{Bool, true, false, not, cond, _&&_}
 use mathlib.Core.List.{List}
 use mathlib.Core.Option.{Option, none, some}
 use lib.ListN.{getD}
@@ -19,16 +19,20 @@ use lib.Bits.{bitAnd, and-le-l}
 use lib.Count.{trailingZeros}
 use Rattle.sheet.specs.Settings.{budget}
 use Rattle.model.specs.State.{State}
-use Rattle.model.specs.Policy
-use Rattle.model.specs.Policy.{competing, hasBudget, topPriority, mode, idleMode, freeTime, underload, atLimit, byBudget, byPriority, betterFraction, ratioPolicy, winner, decide, decideFor}
-use Rattle.model.specs.Choices.{Won}
+use Rattle.units.specs.Units.{compareNumbers, compareFlags}
+use Rattle.units.specs.declared.Comparison.{Comparison}
+use Rattle.units.specs.declared.Comparison.the-variants.{Better, Worse, Equal}
+use Rattle.model.specs.Policy.{competing, hasBudget, topPriority, mode, idleMode, freeTime, underload, atLimit, byBudget, byPriority, byFraction, _then_, compare, ratioPolicy, favours, winner, decide, decideFor}
+use Rattle.model.specs.Choices.{Ordered, Won}
 use Rattle.model.specs.Answers.{modeOf, decidedOf}
 use Rattle.model.specs.declared.Mode.{Mode}
 use Rattle.model.specs.declared.Mode.the-variants.{Idle, FreeTime, Underload, AtLimit}
-use Rattle.model.proofs.Winner.{winner-won, winner-none}
+use Rattle.model.proofs.Order.{apart, not-better, not-worse, reversed-better, ordered}
+use Rattle.model.proofs.Winner.{same-partition, favours-it, it-is-favoured, winner-won, winner-is}
 use Rattle.accounts.specs.Kept.{Kept, level}
-use Rattle.decision.specs.Narrowing.{Narrowed, firstBy, richer, higher, smaller}
-use Rattle.decision.specs.Orders.{modeBy, orderBy, comesBy, comesBefore}
+use Rattle.decision.specs.Narrowing.{Narrowed, onSet, onPriority, onFraction}
+use Rattle.decision.specs.Orders.{modeBy, orderBy, asked, comparedBy, comparedIn}
+use Rattle.decision.specs.Decides.{Favoured}
 
 -- ---- the mode
 
@@ -94,79 +98,39 @@ module _ (paying set solvent : ℕ) (small : set < 2 ^ 16) where
 
 -- ---- the order
 
-higher-first : (a b : ℕ) (rest : Bool) → firstBy (ltb b a) (ltb a b) rest ≡ (ltb b a || (eqb b a && rest))
-higher-first a b rest = go (ltb b a) refl (ltb a b) refl
+-- what the order does not ask for is an order too, in which all are equal
+pub asked-ordered : (on : Bool) (R : ℕ → ℕ → Comparison) → Ordered R → Ordered (λ p q. asked on (R p q))
+unfolding asked
+asked-ordered true R o = o
+asked-ordered false R o = record { mirrored = λ p q. refl; transitive = λ p q r m n. m }
+
+-- top priorities are kept as one more than they are
+one-more : (a b : ℕ) → compareNumbers (a + 1) (b + 1) ≡ compareNumbers a b
+unfolding compareNumbers
+one-more a b = rw (shifted b a, shifted a b)
   where
-    go : (y : Bool) → ltb b a ≡ y → (z : Bool) → ltb a b ≡ z → firstBy y z rest ≡ (y || (eqb b a && rest))
-    go true e z f = refl
-    go false e true f = let h : a < b = ltb-true a b f in rw (ne-eqb b a (omega arith))
-    go false e false f =
-        let h : a ≤ b = ltb-false b a e in
-        let k : b ≤ a = ltb-false a b f in
-        rw (eq-eqb b a (omega arith))
+    shifted : (x y : ℕ) → ltb (x + 1) (y + 1) ≡ ltb x y
+    shifted x y = go (decLt x y)
+      where
+        go : Dec (x < y) → ltb (x + 1) (y + 1) ≡ ltb x y
+        go (yes h) = lt-ltb (x + 1) (y + 1) (omega arith) ∙ sym (lt-ltb x y h)
+        go (no h) = le-ltb (x + 1) (y + 1) (omega arith) ∙ sym (le-ltb x y (omega arith))
 
-richer-first : (a b rest : Bool) → firstBy (a && not b) (b && not a) rest ≡ ((a && not b) || (cond a b (not b) && rest))
-richer-first true true rest = refl
-richer-first true false rest = refl
-richer-first false true rest = refl
-richer-first false false rest = refl
-
-one-more : (a b : ℕ) → ltb (a + 1) (b + 1) ≡ ltb a b
-one-more a b = go (decLt a b)
+-- the mode table's column of orders, over what p is against q in the state
+compared-is : (s : State) (p q : ℕ) (m : Mode)
+    → comparedBy (orderBy m (s .settings .policy)) (byBudget s p q) (byPriority s p q) (byFraction s p q) ≡ compare s (modeOf m) p q
+unfolding asked compare ratioPolicy _then_
+compared-is s p q Idle = refl
+compared-is s p q FreeTime = go (eqb (s .settings .policy) 1)
   where
-    go : Dec (a < b) → ltb (a + 1) (b + 1) ≡ ltb a b
-    go (yes h) = lt-ltb (a + 1) (b + 1) (omega arith) ∙ sym (lt-ltb a b h)
-    go (no h) = le-ltb (a + 1) (b + 1) (omega arith) ∙ sym (le-ltb a b (omega arith))
-
--- by the mode table: of two partitions of which this is known
-module _ (s : State) (p q : ℕ) where
-  abbrev comesIn : Mode → Bool
-  comesIn m = comesBy (orderBy m (s .settings .policy)) (hasBudget s p && not (hasBudget s q)) (hasBudget s q && not (hasBudget s p))
-      (ltb (topPriority s q) (topPriority s p)) (ltb (topPriority s p) (topPriority s q)) (betterFraction s p q)
-
-  by-all : comesIn Underload ≡ byBudget s p q (byPriority s p q (betterFraction s p q))
-  unfolding byPriority byBudget
-  by-all =
-      ap (λ (b : Bool). firstBy (hasBudget s p && not (hasBudget s q)) (hasBudget s q && not (hasBudget s p)) b)
-      (higher-first (topPriority s p) (topPriority s q) (betterFraction s p q))
-      ∙ richer-first (hasBudget s p) (hasBudget s q) _
-
-  by-ratio : comesBy (record { budget = true; priority = false }) (hasBudget s p && not (hasBudget s q)) (hasBudget s q && not (hasBudget s p))
-      (ltb (topPriority s q) (topPriority s p)) (ltb (topPriority s p) (topPriority s q)) (betterFraction s p q)
-      ≡ byBudget s p q (betterFraction s p q)
-  unfolding byBudget
-  by-ratio = richer-first (hasBudget s p) (hasBudget s q) (betterFraction s p q)
-
-  before-is : (m : Mode) → comesIn m ≡ Policy.before s (modeOf m) p q
-  unfolding Policy.before ratioPolicy
-  before-is Idle = by-all
-  before-is FreeTime = go (eqb (s .settings .policy) 1)
-    where
-      go : (z : Bool) → comesBy (record { budget = true; priority = not z }) (hasBudget s p && not (hasBudget s q)) (hasBudget s q && not (hasBudget s p))
-          (ltb (topPriority s q) (topPriority s p)) (ltb (topPriority s p) (topPriority s q)) (betterFraction s p q)
-          ≡ cond z (byBudget s p q (betterFraction s p q)) (byBudget s p q (byPriority s p q (betterFraction s p q)))
-      go true = by-ratio
-      go false = by-all
-  before-is Underload = by-all
-  before-is AtLimit = refl
+    go : (z : Bool) → comparedBy (record { budget = true; priority = not z }) (byBudget s p q) (byPriority s p q) (byFraction s p q)
+        ≡ cond z (byBudget s p q then byFraction s p q) (byBudget s p q then byPriority s p q then byFraction s p q)
+    go true = refl
+    go false = refl
+compared-is s p q Underload = refl
+compared-is s p q AtLimit = refl
 
 -- ---- the winner
-
--- there is one winner
-won-alone : (s : State) (n v w : ℕ) → Won s n v → Won s n w → v ≡ w
-won-alone s n v w a b = go (decLt v w) (decLt w v)
-  where
-    go : Dec (v < w) → Dec (w < v) → v ≡ w
-    go (yes h) d = clash (b .lowest v h (a .competes)) (a .unbeaten w (b .inside) (b .competes))
-    go (no h) (yes k) = clash (a .lowest w k (b .competes)) (b .unbeaten v (a .inside) (a .competes))
-    go (no h) (no k) = omega arith
-
-won-is : (s : State) (w : ℕ) → Won s (s .settings .count) w → winner s ≡ some w
-won-is s w h = go (winner s) refl
-  where
-    go : (o : Option ℕ) → winner s ≡ o → winner s ≡ some w
-    go none e = clash (h .competes) (winner-none s e w (h .inside))
-    go (some v) e = e ∙ ap (λ (k : ℕ). some k) (won-alone s (s .settings .count) v w (winner-won s v e) h)
 
 module _ (s : State) (totals budgets tops firsts : List ℕ) (policy paying set solvent : ℕ) (k : Kept s totals budgets tops firsts policy paying set solvent) where
   abbrev count : ℕ
@@ -220,54 +184,88 @@ module _ (s : State) (totals budgets tops firsts : List ℕ) (policy paying set 
   unfolding level
   top-is p b e = k .led .top p b ∙ ap (λ (z : Bool). cond z (topPriority s p + 1) 0) e
 
-  higher-is : (p q : ℕ) → p < 16 → q < 16 → competing s p ≡ true → competing s q ≡ true → higher tops p q ≡ ltb (topPriority s q) (topPriority s p)
-  higher-is p q b c e f = rw (top-is p b e, top-is q c f) (one-more (topPriority s q) (topPriority s p))
+  priority-is : (p q : ℕ) → p < 16 → q < 16 → competing s p ≡ true → competing s q ≡ true → onPriority tops p q ≡ byPriority s p q
+  unfolding byPriority
+  priority-is p q b c e f = rw (top-is p b e, top-is q c f) (one-more (topPriority s p) (topPriority s q))
 
-  -- of two that compete, the order over kept data is the paper's
+  -- what one that competes is against another, over kept data, is what the paper says
   order-is : (m : Mode) → modeOf m ≡ mode s → (p q : ℕ) → p < 16 → q < 16 → competing s p ≡ true → competing s q ≡ true
-      → comesBefore (orderBy m policy) solvent tops totals budgets p q ≡ Policy.before s (mode s) p q
-  unfolding betterFraction
+      → comparedIn (orderBy m policy) solvent tops totals budgets p q ≡ compare s (mode s) p q
+  unfolding byBudget byFraction
   order-is m e p q b c f g =
       let x = k .led .inside p f in
       let y = k .led .inside q g in
-      let hp = k .weighed p x in
-      let hq = k .weighed q y in
-      let richer-is : richer solvent p q ≡ (hasBudget s p && not (hasBudget s q)) = rw (hp, hq) in
-      let poorer-is : richer solvent q p ≡ (hasBudget s q && not (hasBudget s p)) = rw (hp, hq) in
-      let smaller-is : smaller totals budgets p q ≡ betterFraction s p q = rw (k .spent p x, k .spent q y, k .priced .amount p x, k .priced .amount q y) in
-      (λ i. comesBy (orderBy m (k .ruled i)) (richer-is i) (poorer-is i) (higher-is p q b c f g i) (higher-is q p c b g f i) (smaller-is i))
-      ∙ before-is s p q m ∙ ap (λ (n : ℕ). Policy.before s n p q) e
+      let budget-is : onSet solvent p q ≡ byBudget s p q = rw (k .weighed p x, k .weighed q y) in
+      let fraction-is : onFraction totals budgets p q ≡ byFraction s p q = rw (k .spent p x, k .spent q y, k .priced .amount p x, k .priced .amount q y) in
+      (λ i. comparedBy (orderBy m (k .ruled i)) (budget-is i) (priority-is p q b c f g i) (fraction-is i))
+      ∙ compared-is s p q m ∙ ap (λ (n : ℕ). compare s n p q) e
 
-  -- the lowest of the best is the winner
-  won : (m : Mode) → modeOf m ≡ mode s → (best w : ℕ) → Narrowed (comesBefore (orderBy m policy) solvent tops totals budgets) set best → Lowest 16 best w
-      → Won s count w
-  won m e best w n l = record {
-    inside = k .led .inside w competes;
-    competes = competes;
-    unbeaten = λ q b f.
-        sym (order-is m e q w (few q b) (l .inside) f competes) ∙ n .unbeaten w q (l .inside) (few q b) (l .here) (k .led .competes q (few q b) ∙ f);
-    lowest = λ q b f.
-        let c : q < 16 = omega (arith, b, l .inside) in
-        sym (order-is m e w q (l .inside) c competes f) ∙ n .beaten w q (l .inside) c (l .here) (k .led .competes q c ∙ f) (l .lower q b);
-  }
-    where
-      competes : competing s w ≡ true
-      competes = sym (k .led .competes w (l .inside)) ∙ n .inside w (l .inside) (l .here)
+  -- of those tied for best, the favoured one, or else the lowest, is the winner
+  module _ (m : Mode) (made : m ≡ modeBy paying set solvent) (f : Option ℕ) (favoured tied best w : ℕ) (is : Favoured f favoured)
+      (n : Narrowed (comparedIn (orderBy m policy) solvent tops totals budgets) set tied) (c : Narrowed (onSet favoured) tied best) (l : Lowest 16 best w) where
+    e : modeOf m ≡ mode s
+    e = ap modeOf made ∙ mode-is
 
-  pub decided : (m : Mode) → m ≡ modeBy paying set solvent → (best w : ℕ) → Narrowed (comesBefore (orderBy m policy) solvent tops totals budgets) set best
-      → Lowest 16 best w → decidedOf (record { mode = m; partition = w; thread = getD firsts w 0 }) ≡ decide s
-  unfolding decide decideFor
-  decided m e best w n l =
-      let f : modeOf m ≡ mode s = ap modeOf e ∙ mode-is in
-      rw (won-is s w (won m f best w n l), f, k .led .thread w (l .inside))
+    among : inSet tied w ≡ true
+    among = c .inside w (l .inside) (l .here)
+
+    competes : competing s w ≡ true
+    competes = sym (k .led .competes w (l .inside)) ∙ n .inside w (l .inside) among
+
+    order : Ordered (compare s (mode s))
+    order = ordered s (mode s)
+
+    -- one that competes and is not among them is worse
+    worse : (q : ℕ) → q < 16 → competing s q ≡ true → inSet tied q ≡ false → compare s (mode s) w q ≡ Better
+    worse q b d g = sym (order-is m e w q (l .inside) b competes d) ∙ n .beaten w q (l .inside) b among (k .led .competes q b ∙ d) g
+
+    -- the favoured one goes before w, unless that is the favoured one; and w before another only if it is
+    favoured-first : (q : ℕ) → q < 16 → favours f q ≡ true → favours f w ≡ false → onSet favoured q w ≡ Better
+    unfolding compareFlags
+    favoured-first q b x y = rw (is q b ∙ x, is w (l .inside) ∙ y)
+
+    not-favoured : (q : ℕ) → favours f w ≡ false → onSet favoured w q ≢ Better
+    unfolding compareFlags
+    not-favoured q y = rw (is w (l .inside) ∙ y) (go (inSet favoured q))
+      where
+        go : (z : Bool) → compareFlags false z ≢ Better
+        go true x = apart (sym x)
+        go false x = not-better (sym x)
+
+    won : Won s f count w
+    won = record {
+      inside = k .led .inside w competes;
+      competes = competes;
+      unbeaten = λ q b d g.
+          n .unbeaten w q (l .inside) (few q b) among (k .led .competes q (few q b) ∙ d) (order-is m e q w (few q b) (l .inside) d competes ∙ g);
+      favoured = λ q g b d t. it q g (few q b) d t (inSet tied q) refl (favours f w) refl;
+      lowest = λ g q b d. let i : q < 16 = omega (arith, b, l .inside) in first g q b i d (inSet tied q) refl (favours f w) refl;
+    }
+      where
+        it : (q : ℕ) → f ≡ some q → q < 16 → competing s q ≡ true → compare s (mode s) q w ≡ Equal → (z : Bool) → inSet tied q ≡ z
+            → (y : Bool) → favours f w ≡ y → w ≡ q
+        it q g b d t false i y j = not-worse (sym (reversed-better (compare s (mode s)) order w q (worse q b d i)) ∙ t)
+        it q g b d t true i true j = same-partition (sym (favours-it f w j) ∙ g)
+        it q g b d t true i false j = absurd (c .unbeaten w q (l .inside) b (l .here) i (favoured-first q b (it-is-favoured f q g) j))
+
+        first : f ≢ some w → (q : ℕ) → q < w → q < 16 → competing s q ≡ true → (z : Bool) → inSet tied q ≡ z → (y : Bool) → favours f w ≡ y
+            → compare s (mode s) w q ≡ Better
+        first g q b i d false t y j = worse q i d t
+        first g q b i d true t true j = absurd (g (favours-it f w j))
+        first g q b i d true t false j = absurd (not-favoured q j (c .beaten w q (l .inside) i (l .here) t (l .lower q b)))
+
+    pub decided : decidedOf (record { mode = m; partition = w; thread = getD firsts w 0 }) ≡ decide s f
+    unfolding decide decideFor
+    decided = rw (winner-is s f w won, e, k .led .thread w (l .inside))
 
   -- where none competes
-  pub decided-idle : (m : Mode) → m ≡ modeBy paying set solvent → set ≡ 0 → set < 2 ^ 16 → decidedOf (record { mode = m; partition = 0; thread = 255 }) ≡ decide s
+  pub decided-idle : (f : Option ℕ) (m : Mode) → m ≡ modeBy paying set solvent → set ≡ 0 → set < 2 ^ 16
+      → decidedOf (record { mode = m; partition = 0; thread = 255 }) ≡ decide s f
   unfolding decide decideFor
-  decided-idle m e z small = rw (nobody (winner s) refl, e ∙ sym (mode-idle paying set solvent small z))
+  decided-idle f m e z small = rw (nobody (winner s f) refl, e ∙ sym (mode-idle paying set solvent small z))
     where
-      nobody : (o : Option ℕ) → winner s ≡ o → winner s ≡ none
-      nobody none f = f
-      nobody (some w) f =
-          let h = winner-won s w f in
+      nobody : (o : Option ℕ) → winner s f ≡ o → winner s f ≡ none
+      nobody none d = d
+      nobody (some w) d =
+          let h = winner-won s f w d in
           clash (h .competes) (sym (k .led .competes w (few w (h .inside))) ∙ ap (λ (j : ℕ). inSet j w) z ∙ bits.none w)

@@ -5,9 +5,12 @@ use mathlib.Core.List.{List}
 use lib.Dec.{eqb}
 use Rattle.lists.specs.Lists.{below, any}
 use Rattle.sets.specs.Bits.{inSet}
+use Rattle.units.specs.declared.Comparison.{Comparison}
+use Rattle.units.specs.declared.Comparison.the-variants.{Equal}
+use Rattle.model.specs.Policy.{_then_}
 use Rattle.model.specs.declared.Mode.{Mode}
 use Rattle.model.specs.declared.Mode.the-variants.{Idle, FreeTime, Underload, AtLimit}
-use Rattle.decision.specs.Narrowing.{firstBy, richer, higher, smaller}
+use Rattle.decision.specs.Narrowing.{onSet, onPriority, onFraction}
 use Rattle.decision.specs.declared.Order.{Order}
 
 -- "Mode, first that fits"
@@ -25,11 +28,13 @@ orderBy FreeTime policy = record { budget = true; priority = not (eqb policy 1) 
 orderBy Underload policy = record { budget = true; priority = true }
 orderBy AtLimit policy = record { budget = false; priority = false }
 
--- one partition comes before another: on has budget, then on top priority, each where the order has it, then on the fraction
-abbrev pub comesBy : Order → Bool → Bool → Bool → Bool → Bool → Bool
-comesBy o richer poorer higher lower smaller =
-    firstBy (o .budget && richer) (o .budget && poorer) (firstBy (o .priority && higher) (o .priority && lower) smaller)
+-- what the order does not ask for leaves two partitions equal
+unfoldable pub asked : Bool → Comparison → Comparison
+asked on c = cond on c Equal
 
-abbrev pub comesBefore : Order → ℕ → List ℕ → List ℕ → List ℕ → ℕ → ℕ → Bool
-comesBefore o solvent tops used budgets p q =
-    comesBy o (richer solvent p q) (richer solvent q p) (higher tops p q) (higher tops q p) (smaller used budgets p q)
+-- what one partition is against another: on has budget, then on top priority, each where the order has it, then on the fraction
+abbrev pub comparedBy : Order → Comparison → Comparison → Comparison → Comparison
+comparedBy o budget priority fraction = asked (o .budget) budget then asked (o .priority) priority then fraction
+
+abbrev pub comparedIn : Order → ℕ → List ℕ → List ℕ → List ℕ → ℕ → ℕ → Comparison
+comparedIn o solvent tops used budgets p q = comparedBy o (onSet solvent p q) (onPriority tops p q) (onFraction used budgets p q)

@@ -4,8 +4,10 @@ ghost use Rattle.sheet.specs.Settings.{Limits};
 ghost use Prim.Native.Nat.{_<_};
 ghost use Rattle.decision.specs.Keeping.{KeptIn, Lined};
 ghost use Rattle.decision.specs.Follow.{Followed, FollowedPriority, FollowedTurn};
-ghost use Rattle.decision.specs.Upkeep.{Held, DecidesKept};
+ghost use Rattle.decision.specs.Decides.{Favoured};
+ghost use Rattle.decision.specs.Upkeep.{Held, workedFor, Works, DecidesKept};
 use crate::leads;
+use accounts::IDLE;
 use accounts::solvency;
 use event::kinds::Action;
 use model::Decision;
@@ -57,7 +59,18 @@ pub fn begin(
     }
 }
 
-// The decision.
+// The favoured partition as a set: the one that the running thread works for, or nothing while idle.
+pub fn favoured_in(partitions: &[u8; 64], running: u32) -> u16
+    requires { ⌜ Works (now partitions) running ⌝ }
+    ensures { λ r. ⌜ Favoured (workedFor (now (partitions .entry)) running) r ⌝ }
+{
+    if running == IDLE {
+        return 0;
+    }
+    sets::only(partitions[running as usize])
+}
+
+// The decision, with the set of the favoured partition.
 pub fn choose(
     settings: Settings,
     used: &[u32; 16],
@@ -65,8 +78,9 @@ pub fn choose(
     tops: &[u16; 16],
     firsts: &[u8; 16],
     sets: Sets,
+    favoured: u16,
 ) -> Decision
-    ensures { λ r. ⌜ DecidesKept settings (now (used .entry)) (now (budgets .entry)) (now (tops .entry)) (now (firsts .entry)) sets r ⌝ }
+    ensures { λ r. ⌜ DecidesKept settings (now (used .entry)) (now (budgets .entry)) (now (tops .entry)) (now (firsts .entry)) sets favoured r ⌝ }
 {
     crate::decide(
         used,
@@ -77,6 +91,7 @@ pub fn choose(
         sets.paying,
         sets.competing,
         sets.solvent,
+        favoured,
     )
 }
 

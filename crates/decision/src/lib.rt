@@ -6,9 +6,8 @@ pub mod narrowing;
 
 ghost use mathlib.Core.Logic.{_≢_};
 ghost use mathlib.Core.Path.{_≡_};
-ghost use mathlib.Core.Bool.{_&&_};
-ghost use Rattle.decision.specs.Narrowing.{Narrowed, richer, higher};
-ghost use Rattle.decision.specs.Orders.{modeBy, orderBy, comesBefore};
+ghost use Rattle.decision.specs.Narrowing.{Narrowed, onSet, onPriority};
+ghost use Rattle.decision.specs.Orders.{modeBy, orderBy, asked, comparedIn};
 ghost use Rattle.decision.specs.Decides.{Decides};
 use model::Decision;
 use model::Mode;
@@ -64,10 +63,10 @@ pub fn order_in(mode: Mode, policy: u32) -> Order
 // Those of a set that are best on has budget, where the order asks for it.
 fn by_budget(order: Order, among: u16, solvent: u16) -> u16
     requires { ⌜ among ≢ 0 ⌝ }
-    ensures { λ r. ⌜ Narrowed (λ p q. order .budget && richer solvent p q) among r ⌝ }
+    ensures { λ r. ⌜ Narrowed (λ p q. asked (order .budget) (onSet solvent p q)) among r ⌝ }
 {
     if order.budget {
-        return narrowing::funded(among, solvent);
+        return narrowing::preferred(among, solvent);
     }
     among
 }
@@ -75,7 +74,7 @@ fn by_budget(order: Order, among: u16, solvent: u16) -> u16
 // Those of a set that are best on top priority, where the order asks for it.
 fn by_priority(order: Order, tops: &[u16; 16], among: u16) -> u16
     requires { ⌜ among ≢ 0 ⌝ }
-    ensures { λ r. ⌜ Narrowed (λ p q. order .priority && higher (now (tops .entry)) p q) among r ⌝ }
+    ensures { λ r. ⌜ Narrowed (λ p q. asked (order .priority) (onPriority (now (tops .entry)) p q)) among r ⌝ }
 {
     if order.priority {
         return narrowing::highest(tops, among);
@@ -83,7 +82,7 @@ fn by_priority(order: Order, tops: &[u16; 16], among: u16) -> u16
     among
 }
 
-// Those of the competing partitions that none comes before: all that are tied for best.
+// Those of the competing partitions that none is better than: all that are tied for best.
 fn best_of(
     used: &[u32; 16],
     budgets: &[u32; 16],
@@ -93,14 +92,14 @@ fn best_of(
     solvent: u16,
 ) -> u16
     requires { ⌜ competing ≢ 0 ⌝ }
-    ensures { λ r. ⌜ Narrowed (comesBefore order solvent (now (tops .entry)) (now (used .entry)) (now (budgets .entry))) competing r ⌝ }
+    ensures { λ r. ⌜ Narrowed (comparedIn order solvent (now (tops .entry)) (now (used .entry)) (now (budgets .entry))) competing r ⌝ }
 {
     let rich = by_budget(order, competing, solvent);
     let high = by_priority(order, tops, rich);
     narrowing::smallest(used, budgets, high)
 }
 
-// The decision. Ties go to the lowest number.
+// The decision. Among those tied for best the favoured partition wins, if it is one of them; otherwise the lowest number.
 pub fn decide(
     used: &[u32; 16],
     budgets: &[u32; 16],
@@ -110,9 +109,10 @@ pub fn decide(
     paying: u16,
     competing: u16,
     solvent: u16,
+    favoured: u16,
 ) -> Decision
     ensures { λ r. ⌜
-        Decides (now (used .entry)) (now (budgets .entry)) (now (tops .entry)) (now (firsts .entry)) policy paying competing solvent r
+        Decides (now (used .entry)) (now (budgets .entry)) (now (tops .entry)) (now (firsts .entry)) policy paying competing solvent favoured r
         ⌝ }
 {
     let mode = mode_in(paying, competing, solvent);
@@ -124,8 +124,9 @@ pub fn decide(
         };
     }
     let order = order_in(mode, policy);
-    let best = best_of(used, budgets, tops, order, competing, solvent);
-    let winner = sets::lowest(best);
+    let tied = best_of(used, budgets, tops, order, competing, solvent);
+    let kept = narrowing::preferred(tied, favoured);
+    let winner = sets::lowest(kept);
     let at = winner as usize;
     let thread = firsts[at];
     Decision {

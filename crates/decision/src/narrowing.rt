@@ -1,11 +1,12 @@
-// A set of partitions is narrowed to the best of it: by has budget, by top priority, by the fraction used. Each function takes a set and gives
-// those of it that none comes before; nothing here knows of modes, and ties stay in the set.
+// A set of partitions is narrowed to the best of it: by being in another set, by top priority, by the fraction used. Each function takes a set
+// and gives those of it that none is better than; nothing here knows of modes, and those that are equal stay in the set.
 ghost use mathlib.Core.Logic.{_≢_};
 ghost use mathlib.Core.Path.{_≡_};
 ghost use Prim.Native.Nat.{ℕ, _<_};
-ghost use lib.Dec.{ltb};
 ghost use lib.ListN.{getD};
-ghost use Rattle.decision.specs.Narrowing.{Narrowed, OneMore, richer, higher, smaller, fraction, smallerThan};
+ghost use Rattle.units.specs.Units.{compareNumbers};
+ghost use Rattle.decision.specs.Narrowing.{Narrowed, OneMore, onSet, onPriority, onFraction, fraction, comparedFractions};
+use units::Comparison;
 use units::Cycles;
 use units::Fraction;
 
@@ -21,42 +22,54 @@ pub struct Front {
     pub fraction: Fraction,
 }
 
-// Those of a set that have budget, if there are such; otherwise all are level.
-pub fn funded(among: u16, solvent: u16) -> u16
+// Those of a set that are in another one, if there are such; otherwise all are level.
+pub fn preferred(among: u16, set: u16) -> u16
     requires { ⌜ among ≢ 0 ⌝ }
-    ensures { λ r. ⌜ Narrowed (richer solvent) among r ⌝ }
+    ensures { λ r. ⌜ Narrowed (onSet set) among r ⌝ }
 {
-    let able = among & solvent;
-    if able == 0 {
+    let both = among & set;
+    if both == 0 {
         return among;
     }
-    able
+    both
+}
+
+// The higher top priority is better.
+fn compare_tops(a: u16, b: u16) -> Comparison
+    ensures { λ r. ⌜ r ≡ compareNumbers a b ⌝ }
+{
+    if b < a {
+        return Comparison::Better;
+    }
+    if a < b {
+        return Comparison::Worse;
+    }
+    Comparison::Equal
 }
 
 // The partitions of the top priority after one more.
 fn raise(k: Peak, p: u8, top: u16) -> Peak
     requires { ⌜ p < 16 ⌝ }
-    ensures { λ r. ⌜ OneMore ℕ (ltb (k .top) top) (ltb top (k .top)) (k .top) top (k .kept) p (r .top) (r .kept) ⌝ }
+    ensures { λ r. ⌜ OneMore ℕ (compareNumbers top (k .top)) (k .top) top (k .kept) p (r .top) (r .kept) ⌝ }
 {
-    if k.top < top {
-        return Peak {
+    let against = compare_tops(top, k.top);
+    match against {
+        Comparison::Better => Peak {
             kept: sets::only(p),
             top: top,
-        };
-    }
-    if top < k.top {
-        return k;
-    }
-    Peak {
-        kept: sets::put(k.kept, p),
-        top: k.top,
+        },
+        Comparison::Worse => k,
+        Comparison::Equal => Peak {
+            kept: sets::put(k.kept, p),
+            top: k.top,
+        },
     }
 }
 
 // Those of a set whose top priority is highest.
 pub fn highest(tops: &[u16; 16], among: u16) -> u16
     requires { ⌜ among ≢ 0 ⌝ }
-    ensures { λ r. ⌜ Narrowed (higher (now (tops .entry))) among r ⌝ }
+    ensures { λ r. ⌜ Narrowed (onPriority (now (tops .entry))) among r ⌝ }
 {
     let p = sets::lowest(among);
     let at = p as usize;
@@ -94,28 +107,27 @@ fn fraction_at(used: &[u32; 16], budgets: &[u32; 16], p: u8) -> Fraction
 // The partitions of the smallest fraction after one more.
 fn lower(k: Front, p: u8, x: Fraction) -> Front
     requires { ⌜ p < 16 ⌝ }
-    ensures { λ r. ⌜ OneMore Fraction (smallerThan x (k .fraction)) (smallerThan (k .fraction) x) (k .fraction) x (k .kept) p (r .fraction) (r .kept) ⌝ }
+    ensures { λ r. ⌜ OneMore Fraction (comparedFractions x (k .fraction)) (k .fraction) x (k .kept) p (r .fraction) (r .kept) ⌝ }
 {
     let best = k.fraction;
-    if units::smaller_fraction(x, best) {
-        return Front {
+    let against = units::compare_fractions(x, best);
+    match against {
+        Comparison::Better => Front {
             kept: sets::only(p),
             fraction: x,
-        };
-    }
-    if units::smaller_fraction(best, x) {
-        return k;
-    }
-    Front {
-        kept: sets::put(k.kept, p),
-        fraction: best,
+        },
+        Comparison::Worse => k,
+        Comparison::Equal => Front {
+            kept: sets::put(k.kept, p),
+            fraction: best,
+        },
     }
 }
 
 // Those of a set that have used the smallest fraction of their budgets.
 pub fn smallest(used: &[u32; 16], budgets: &[u32; 16], among: u16) -> u16
     requires { ⌜ among ≢ 0 ⌝ }
-    ensures { λ r. ⌜ Narrowed (smaller (now (used .entry)) (now (budgets .entry))) among r ⌝ }
+    ensures { λ r. ⌜ Narrowed (onFraction (now (used .entry)) (now (budgets .entry))) among r ⌝ }
 {
     let p = sets::lowest(among);
     let kept = sets::only(p);

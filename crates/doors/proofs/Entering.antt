@@ -9,7 +9,7 @@ use Rattle.model.specs.State.{State}
 use Rattle.model.specs.Arrays.{Columns, Regular, stateOf}
 use Rattle.model.specs.Doors.{takenBy}
 use Rattle.model.specs.Event.{refusedState}
-use Rattle.model.specs.Facts.{Settled}
+use Rattle.model.specs.Facts.{Settled, Sound}
 use Rattle.model.specs.Lent.{refusedArrays}
 use Rattle.model.specs.Run.{run, after}
 use Rattle.model.specs.Step.{Saved, saved}
@@ -20,7 +20,8 @@ use Rattle.model.proofs.Accepted.{fit-of}
 use Rattle.model.proofs.Flags.{accepted}
 use Rattle.decision.specs.Keeping.{Lined}
 use Rattle.decision.proofs.States.{lined}
-use Rattle.decision.specs.Upkeep.{HeldBy}
+use Rattle.decision.specs.Upkeep.{HeldBy, Works}
+use Rattle.decision.proofs.UpkeepLaws.{works}
 use Rattle.decision.specs.declared.kept.Sets.{Sets}
 use Rattle.scheduler.specs.Stepping.{Whole, StepAnswered, Still}
 use Rattle.scheduler.proofs.SchedulerLaws.{taken-arrays}
@@ -39,8 +40,15 @@ module _ (c : Settings) (u : List ℕ) (k : Clock) (ts : Columns) (q h : List �
   taken : refusedState s h ≡ 0
   taken = accepted c u k ts q h z .1
 
+  sound : Sound s h
+  sound = fit-of s h taken .sound
+
   pub settled : Settled s h
-  settled = fit-of s h taken .sound .settled
+  settled = sound .settled
+
+  -- the running thread works for a partition
+  pub working : Works (ts .partitions) (k .running)
+  working = works c u k ts q regular h sound
 
   pub begins : Limits c × Lined (ts .partitions) q (k .queued) (c .core)
   begins = (settled .limits, lined c u k ts q regular h settled (room .full))

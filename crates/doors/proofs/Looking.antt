@@ -23,6 +23,7 @@ use Rattle.model.specs.Doors.{decision, refusedRemaining, remainder}
 use Rattle.model.specs.Facts.{Fit}
 use Rattle.model.specs.Lent.{Lent, lentSettings, lentClock, stateIn, refusedIn}
 use Rattle.model.specs.Policy.{Decided, decide, remaining}
+use Rattle.model.specs.Step.{favoured}
 use Rattle.model.specs.declared.Clock.{Clock}
 use Rattle.model.proofs.Accepted.{fit-of}
 use Rattle.model.proofs.Bounds.{total-fits}
@@ -49,11 +50,11 @@ module _ (x : Lent) (c : Settings) (k : Clock) (ec : c ≡ lentSettings x) (ek :
   decision-no r f = rw (refused r f, never-zero r)
 
   pub decision-yes : o ≡ outcome.Accepted → (d : Decided)
-      → d ≡ decide (stateOf c (x .used) k (x .threads) (x .queue)) → decisionLine d ≡ decision x
+      → d ≡ decide (stateOf c (x .used) k (x .threads) (x .queue)) (favoured (stateOf c (x .used) k (x .threads) (x .queue))) → decisionLine d ≡ decision x
   unfolding decision
   decision-yes f d e =
-      let same : d ≡ decide (stateIn x) =
-      as-lent x c k ec ek (λ a j. d ≡ decide (stateOf a (x .used) j (x .threads) (x .queue))) e in
+      let same : d ≡ decide (stateIn x) (favoured (stateIn x)) =
+      as-lent x c k ec ek (λ a j. d ≡ decide (stateOf a (x .used) j (x .threads) (x .queue)) (favoured (stateOf a (x .used) j (x .threads) (x .queue)))) e in
       rw (taken f, ← same)
 
   -- ---- remaining

@@ -13,7 +13,8 @@ use refusals::Outcome;
 use refusals::Refusal;
 use units::Cycles;
 
-// The decision door: mode, partition and thread as the rules give them for the state. Refused are, in this order: settings outside their
+// The decision door: mode, partition and thread as the rules give them for the state. Favoured is the partition that its running thread works
+// for, so that on what an event left it repeats that event's answer. Refused are, in this order: settings outside their
 // limits (8), a history too short (7), a state not sound (8).
 pub fn decision(
     settings: &[u32; 5],
@@ -77,7 +78,8 @@ pub fn decision(
                 &mut tops,
                 &mut firsts,
             );
-            Verdict::Decided(kept::choose(s, used, &budgets, &tops, &firsts, sets))
+            let favoured = kept::favoured_in(partitions, c.running);
+            Verdict::Decided(kept::choose(s, used, &budgets, &tops, &firsts, sets, favoured))
         }
     }
 }

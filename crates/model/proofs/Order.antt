@@ -109,7 +109,7 @@ reversed-then Better d = refl
 reversed-then Worse d = refl
 reversed-then Equal d = refl
 
-by-both : (R S : ℕ → ℕ → Comparison) → Ordered R → Ordered S → Ordered (λ p q. R p q then S p q)
+pub by-both : (R S : ℕ → ℕ → Comparison) → Ordered R → Ordered S → Ordered (λ p q. R p q then S p q)
 unfolding _then_
 by-both R S a b = record {
   mirrored = λ p q. rw (a .mirrored p q, b .mirrored p q) (reversed-then (R p q) (S p q));
@@ -152,7 +152,7 @@ le-numbers a b h e = go (ltb b a) refl (rw (le-ltb a b h) at e)
     go true q f = apart f
     go false q f = not-worse (sym f)
 
-by-key : (key : ℕ → ℕ) → Ordered (λ p q. compareNumbers (key p) (key q))
+pub by-key : (key : ℕ → ℕ) → Ordered (λ p q. compareNumbers (key p) (key q))
 by-key key = record {
   mirrored = λ p q. numbers-reversed (key p) (key q);
   transitive = λ p q r m n. le-numbers (key p) (key r) (omega (arith, numbers-le (key p) (key q) m, numbers-le (key q) (key r) n));
@@ -220,17 +220,19 @@ flags true false = refl
 flags false true = refl
 flags false false = refl
 
-by-budget : (s : State) → Ordered (byBudget s)
-unfolding byBudget
-by-budget s = record {
-  mirrored = λ p q. rw (flags (hasBudget s p) (hasBudget s q), flags (hasBudget s q) (hasBudget s p)) (k .mirrored p q);
-  transitive =
-      λ p q r. rw (flags (hasBudget s p) (hasBudget s q), flags (hasBudget s q) (hasBudget s r), flags (hasBudget s p) (hasBudget s r))
-      (k .transitive p q r);
+-- whatever the flags are
+pub by-flags : (on : ℕ → Bool) → Ordered (λ p q. compareFlags (on p) (on q))
+by-flags on = record {
+  mirrored = λ p q. rw (flags (on p) (on q), flags (on q) (on p)) (k .mirrored p q);
+  transitive = λ p q r. rw (flags (on p) (on q), flags (on q) (on r), flags (on p) (on r)) (k .transitive p q r);
 }
   where
-    k : Ordered (λ p q. compareNumbers (cond (hasBudget s p) 1 0) (cond (hasBudget s q) 1 0))
-    k = by-key (λ p. cond (hasBudget s p) 1 0)
+    k : Ordered (λ p q. compareNumbers (cond (on p) 1 0) (cond (on q) 1 0))
+    k = by-key (λ p. cond (on p) 1 0)
+
+by-budget : (s : State) → Ordered (byBudget s)
+unfolding byBudget
+by-budget s = by-flags (hasBudget s)
 
 by-priority : (s : State) → Ordered (byPriority s)
 unfolding byPriority

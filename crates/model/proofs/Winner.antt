@@ -4,7 +4,7 @@ use mathlib.Core.Path.{_≡_, refl, sym, ap, subst, _∙_}
 use Prim.Native.Nat.{ℕ, zero, suc, _<_}
 use mathlib.Core.Bool.{Bool, true, false, cond}
 use mathlib.Core.Option.{Option, none, some}
-use borrow.Author.Tests.{eqb-true, eqb-false}
+use borrow.Author.Tests.{eqb-true, eqb-false, eq-eqb}
 use native.Mathlib.Omega.{arith}
 use native.Mathlib.Decide.{decLt}
 use native.Mathlib.Nat.{not-suc-le-zero}
@@ -18,21 +18,25 @@ use Rattle.model.proofs.Order.{apart, not-better, not-worse, itself, re
 
 -- ---- the favoured partition
 
-same-some : {a b : ℕ} → some a ≡ some b → a ≡ b
-same-some e = cc
+pub same-partition : {a b : ℕ} → some a ≡ some b → a ≡ b
+same-partition e = cc
 
 none-some : {A : Type 0} {a : ℕ} → none ≡ some a → A
 none-some e = let z : _≡_ {A = ℕ} 0 1 = cc in let w : ⊥ = omega arith in absurd w
 
-favours-it : (f : Option ℕ) (p : ℕ) → favours f p ≡ true → f ≡ some p
+pub favours-it : (f : Option ℕ) (p : ℕ) → favours f p ≡ true → f ≡ some p
 unfolding favours
 favours-it none p e = clash e refl
-favours-it (some q) p e = ap some (eqb-true q p e)
+favours-it (some q) p e = ap some (sym (eqb-true p q e))
 
-favours-not : (f : Option ℕ) (p : ℕ) → favours f p ≡ false → f ≢ some p
+pub it-is-favoured : (f : Option ℕ) (p : ℕ) → f ≡ some p → favours f p ≡ true
+unfolding favours
+it-is-favoured f p e = rw e (eq-eqb p p refl)
+
+pub favours-not : (f : Option ℕ) (p : ℕ) → favours f p ≡ false → f ≢ some p
 unfolding favours
 favours-not none p e g = none-some g
-favours-not (some q) p e g = eqb-false q p e (same-some g)
+favours-not (some q) p e g = eqb-false p q e (sym (same-partition g))
 
 module _ (s : State) where
   abbrev R : ℕ → ℕ → Comparison
@@ -125,7 +129,7 @@ module _ (s : State) where
         unbeaten =
             each (λ q. competing s q ≡ true → R q n ≢ Better)
             (λ q a d b. h .unbeaten q a d (better-than R o q n w b (λ x. not-worse (sym x ∙ e)))) (λ d b. not-better (sym b ∙ itself R o n));
-        favoured = λ q k b d t. same-some (sym g ∙ k);
+        favoured = λ q k b d t. same-partition (sym g ∙ k);
         lowest = λ k. absurd (k g);
       }
 
@@ -193,7 +197,7 @@ module _ (s : State) where
     inside = h .inside;
     competes = h .competes;
     unbeaten = h .unbeaten;
-    favoured = λ q e b d t. same-some e;
+    favoured = λ q e b d t. same-partition e;
     lowest = λ k. absurd (k refl);
   }
 

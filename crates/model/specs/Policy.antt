@@ -100,7 +100,7 @@ compare s m p q =
 -- p is the favoured partition, if there is one
 unfoldable pub favours : Option ℕ → ℕ → Bool
 favours none p = false
-favours (some f) p = eqb f p
+favours (some f) p = eqb p f
 
 -- whether one wins against another of lower number, from what it is against that, and whether it is the favoured one: "Among those tied for
 -- best", the favoured one "wins, if it is one of them; otherwise the lowest number"

@@ -16,7 +16,7 @@ use Rattle.model.specs.Facts.{Settled}
 use Rattle.model.specs.Arrays.{Columns, Regular, stateOf}
 use Rattle.model.specs.Lent.{refusedArrays}
 use Rattle.model.specs.Policy.{decide}
-use Rattle.model.specs.Step.{Saved, saved, withRunning, settle, apply, answer}
+use Rattle.model.specs.Step.{Saved, saved, withRunning, favoured, settle, apply, answer}
 use Rattle.model.specs.State.{State}
 use Rattle.model.specs.declared.Clock.{Clock}
 use Rattle.model.specs.declared.Decision.{Decision}
@@ -28,7 +28,9 @@ use Rattle.invariants.proofs.Answered.{Good, good-answer}
 use Rattle.accounts.proofs.ChargingLaws.{map-length}
 use Rattle.event.specs.Bytes.{bytesOf}
 use Rattle.event.specs.declared.Event.{Event}
-use Rattle.decision.specs.Upkeep.{HeldBy, DecidesKept}
+use Rattle.decision.specs.Decides.{Favoured}
+use Rattle.decision.specs.Upkeep.{HeldBy, workedFor, Works, DecidesKept}
+use Rattle.decision.proofs.UpkeepLaws as Upkeep
 use Rattle.decision.specs.declared.kept.Sets.{Sets}
 use Rattle.scheduler.specs.Effects.{Ready, Applied}
 use Rattle.scheduler.proofs.EffectsLaws.{left}
@@ -49,11 +51,11 @@ module _ (s : State) (h b : List ℕ) where
   unfolding answer
   after-no r e = rw (e, never-zero r)
 
-  line-yes : refused s h b ≡ 0 → (y : Saved) (d : Decision) → y ≡ apply (saved s h) b → decidedOf d ≡ decide (y .state) → lineOf (verdict.Decided d) ≡ answerLine (answer (saved s h) b)
+  line-yes : refused s h b ≡ 0 → (y : Saved) (d : Decision) → y ≡ apply (saved s h) b → decidedOf d ≡ decide (y .state) (favoured s) → lineOf (verdict.Decided d) ≡ answerLine (answer (saved s h) b)
   unfolding answer settle
   line-yes e y d f g = rw (e, ← f, ← g)
 
-  after-yes : refused s h b ≡ 0 → (y : Saved) (d : Decision) → y ≡ apply (saved s h) b → decidedOf d ≡ decide (y .state)
+  after-yes : refused s h b ≡ 0 → (y : Saved) (d : Decision) → y ≡ apply (saved s h) b → decidedOf d ≡ decide (y .state) (favoured s)
       → saved (withRunning (y .state) (d .thread)) (y .history) ≡ answer (saved s h) b .after
   unfolding answer settle
   after-yes e y d f g = rw (e, ← f, ← g)
@@ -80,6 +82,10 @@ module _ (c : Settings) (u : List ℕ) (k : Clock) (ts : Columns) (q h budgets t
     lengths = record { shares = g .shares; used = map-length u ∙ g .sixteen; threads = threads-length ts; queue = g .full };
     settings = refl;
   }
+
+  -- the running thread works for a partition
+  pub works : Works (ts .partitions) (k .running)
+  works = Upkeep.works c u k ts q (g .sizes) h (fit-of s h (g .taken) .sound)
 
   -- the invariant after an event
   whole-after : (b u′ : List ℕ) (k′ : Clock) (ts′ : Columns) (q′ h′ tops′ firsts′ : List ℕ) (sets′ : Sets)
@@ -129,16 +135,19 @@ module _ (c : Settings) (u : List ℕ) (k : Clock) (ts : Columns) (q h budgets t
       held = g .held;
     }
 
-    pub decided : (u′ : List ℕ) (k′ : Clock) (ts′ : Columns) (q′ h′ tops′ firsts′ : List ℕ) (sets′ : Sets) (d : Decision)
-        → Applied c v u′ k′ ts′ q′ h′ budgets tops′ firsts′ sets′ (bytesOf x) → DecidesKept c u′ budgets tops′ firsts′ sets′ d
+    pub decided : (u′ : List ℕ) (k′ : Clock) (ts′ : Columns) (q′ h′ tops′ firsts′ : List ℕ) (sets′ : Sets) (set : ℕ) (d : Decision)
+        → Applied c v u′ k′ ts′ q′ h′ budgets tops′ firsts′ sets′ (bytesOf x) → Favoured (workedFor (ts .partitions) (k .running)) set
+        → DecidesKept c u′ budgets tops′ firsts′ sets′ set d
         → StepAnswered c v (bytesOf x) (verdict.Decided d) u′ (record { stamp = k′ .stamp; slot = k′ .slot; since = k′ .since; queued = k′ .queued; running = d .thread })
         ts′ q′ h′ budgets tops′ firsts′ sets′
-    decided u′ k′ ts′ q′ h′ tops′ firsts′ sets′ d a w =
+    decided u′ k′ ts′ q′ h′ tops′ firsts′ sets′ set d a f w =
         let b = bytesOf x in
         let y : Saved = saved (stateOf c u′ k′ ts′ q′) h′ in
         let fine : Settled (y .state) (y .history) =
         subst (λ (z : Saved). Settled (z .state) (z .history)) (sym (a .state)) (left c u k ts q h budgets tops firsts sets x ready .settled) in
-        let same : decidedOf d ≡ decide (y .state) = w k′ ts′ q′ h′ (a .sizes) fine (a .held) in
+        let same : decidedOf d ≡ decide (y .state) (favoured s) =
+        w k′ ts′ q′ h′ (workedFor (ts .partitions) (k .running)) (a .sizes) fine (a .held) f
+        ∙ ap (decide (y .state)) (Upkeep.favoured-is c u k ts q (g .sizes)) in
         let then = after-yes s h b yes y d (a .state) same in
         record {
           line = line-yes s h b yes y d (a .state) same;

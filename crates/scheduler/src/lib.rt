@@ -24,7 +24,7 @@ pub struct Stepped {
     pub sets: Sets,
 }
 
-// All three steps: what was decided is the answer, and the thread chosen runs.
+// All three steps: what was decided is the answer, and the thread chosen runs. Which partition is favoured is read before the event acts.
 fn accept(
     settings: Settings,
     used: &mut [u32; 16],
@@ -53,6 +53,7 @@ fn accept(
         (now (used .exit)) (r .clock) (columns (now (exists .exit)) (now (ready .exit)) (now (partitions .exit)) (now (priorities .exit)) (now (masks .exit)) (now (policies .exit)) (now (slices .exit))) (now (queue .exit)) (now (history .exit)) (now (budgets .entry)) (now (tops .exit)) (now (firsts .exit)) (r .sets)
         ⌝ }
 {
+    let favoured = kept::favoured_in(partitions, c.running);
     let d = apply::apply(
         settings,
         used,
@@ -73,7 +74,7 @@ fn accept(
         event,
     );
     let after = d.sets;
-    let decision = kept::choose(settings, used, budgets, tops, firsts, after);
+    let decision = kept::choose(settings, used, budgets, tops, firsts, after, favoured);
     let running = decision.thread as u32;
     let k = d.clock;
     let slot = k.slot;

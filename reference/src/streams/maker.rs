@@ -164,8 +164,9 @@ impl Maker {
                 Pace::Still,
             ]);
             match self.random.below(100) {
-                0..=26 => self.mixed(),
-                27..=51 => self.busy(),
+                0..=22 => self.mixed(),
+                23..=42 => self.busy(),
+                43..=51 => self.peers(),
                 52..=59 => self.wave(),
                 60..=66 => self.reorder(),
                 67..=77 => self.rivals(),
@@ -315,6 +316,79 @@ impl Maker {
                 }
                 _ => self.tick(),
             }
+        }
+    }
+
+    /// Threads of one priority in many partitions, often with nothing used by
+    /// anybody, so that ties are frequent: then events that leave a tie, most of
+    /// them of no time, and others that end it and bring it back.
+    fn peers(&mut self) {
+        let priority = self.random.pick(&self.levels);
+        self.pace = self
+            .random
+            .pick(&[Pace::Still, Pace::Still, Pace::Aimed, Pace::Steady]);
+        for _ in 0..self.random.range(0, 3) {
+            self.put_peer(priority);
+        }
+        for t in bits(self.shadow.existing()) {
+            if self.random.percent(70) {
+                self.level(t, priority);
+            }
+        }
+        if self.random.percent(50) {
+            self.resume();
+        }
+        for _ in 0..self.random.range(5, 40) {
+            self.among_peers(priority);
+        }
+    }
+
+    /// A new thread of this priority, if there can be one, in the line: often
+    /// in a partition that has another, so that one of the two can leave.
+    fn put_peer(&mut self, priority: u8) {
+        let beside = self.random.bit(self.shadow.existing());
+        let Some(mut fields) = self.valid(CREATE) else {
+            return;
+        };
+        fields.priority = priority;
+        if let (Some(t), true) = (beside, self.random.percent(60)) {
+            fields.partition = self.shadow.partition_of(t);
+        }
+        self.put(fields);
+        self.put_now(READY, fields.thread);
+    }
+
+    /// An event among peers: mostly one that befalls the running thread.
+    fn among_peers(&mut self, priority: u8) {
+        let existing = self.shadow.existing();
+        let ready = self.shadow.ready();
+        let running = match self.shadow.running() {
+            t if usize::from(t) < THREADS => Some(t),
+            _ => self.random.bit(ready),
+        };
+        match (self.random.below(20), running) {
+            (0..=4, _) => self.put_now(TICK, 0),
+            (5..=7, _) => self.put_kind(TICK),
+            (8..=9, Some(t)) => self.put_now(BLOCK, t),
+            (10, Some(t)) => self.put_for(BLOCK, t),
+            (11, Some(t)) => self.put_now(END, t),
+            (12, Some(t)) => {
+                let other = self.random.byte();
+                let near = [
+                    priority.saturating_add(1),
+                    priority.saturating_sub(1),
+                    other,
+                ];
+                let priority = self.random.pick(&near);
+                self.level(t, priority);
+            }
+            (13, _) => self.put_peer(priority),
+            (14, _) => self.resume(),
+            (15, _) => self.put_kind(READY),
+            _ => match self.random.bit(existing) {
+                Some(t) => self.level(t, priority),
+                None => self.put_peer(priority),
+            },
         }
     }
 
@@ -533,6 +607,17 @@ impl Maker {
     /// a whole one.
     fn put_for(&mut self, kind: u8, thread: u8) {
         let stamp = self.stamp(false);
+        self.put(Fields {
+            kind,
+            thread,
+            stamp,
+            ..Fields::default()
+        });
+    }
+
+    /// The same without any time.
+    fn put_now(&mut self, kind: u8, thread: u8) {
+        let stamp = self.shadow.stamp();
         self.put(Fields {
             kind,
             thread,

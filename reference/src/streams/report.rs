@@ -3,6 +3,7 @@
 use super::maker::{BLOCK, CREATE, END, READY, RESUME, SET, TICK};
 use super::moves::Moves;
 use super::slices::Slices;
+use super::ties::Ties;
 use super::Case;
 use crate::scheduler::Scheduler;
 use crate::RECORD;
@@ -54,8 +55,8 @@ pub fn write_event(f: &mut impl fmt::Write, record: &[u8]) -> fmt::Result {
     }
 }
 
-/// How often each refusal, each mode and each thing about slices and places was
-/// reached.
+/// How often each refusal, each mode and each thing about slices, places and
+/// ties was reached.
 #[derive(Clone, Debug, Default, PartialEq, Eq)]
 pub struct Reach {
     pub cases: u64,
@@ -68,6 +69,7 @@ pub struct Reach {
     pub kinds: [u64; 8],
     slices: Slices,
     moves: Moves,
+    ties: Ties,
 }
 
 impl Reach {
@@ -96,6 +98,7 @@ impl Reach {
                 left.event(event);
                 if refusal == 0 {
                     self.moves.count(met, event, &left);
+                    self.ties.count(met, event, &left);
                 }
                 *met = left;
             }
@@ -103,7 +106,7 @@ impl Reach {
     }
 
     /// Was every refusal a stream can give, every mode and everything about
-    /// slices and places reached?
+    /// slices, places and ties reached?
     pub fn complete(&self) -> bool {
         let refusals = (0..15).filter(|number| !(7..=8).contains(number));
         refusals
@@ -112,6 +115,7 @@ impl Reach {
             && self.modes.iter().all(|&count| count > 0)
             && self.slices.complete()
             && self.moves.complete()
+            && self.ties.complete()
     }
 }
 
@@ -128,6 +132,6 @@ impl fmt::Display for Reach {
         for (kind, count) in self.kinds.iter().enumerate().skip(1) {
             writeln!(f, "accepted kind {kind}: {count}")?;
         }
-        write!(f, "{}{}", self.slices, self.moves)
+        write!(f, "{}{}{}", self.slices, self.moves, self.ties)
     }
 }

@@ -1,8 +1,11 @@
 use Prim.Native.Nat.{ℕ}
-use mathlib.Core.Bool.{Bool, _&&_}
 use denote.Ref.{now}
-use Rattle.decision.specs.Narrowing.{firstBy, richer, higher, smaller}
-use Rattle.decision.proofs.NarrowingLaws.{narrowed-twice}
+use Rattle.units.specs.declared.Comparison.{Comparison}
+use Rattle.model.specs.Policy.{_then_}
+use Rattle.decision.specs.Narrowing.{onSet, onPriority, onFraction}
+use Rattle.decision.specs.Orders.{asked}
+use Rattle.decision.proofs.NarrowingLaws.{set-ordered, tops-ordered, narrowed-twice}
+use Rattle.decision.proofs.DecisionLaws.{asked-ordered}
 use borrow.Author.Needs.{needs}
 use Rattle.decision.proofs.best_of.Statement.{statement}
 use Rattle.decision.proofs.best_of.Tie as tie
@@ -22,11 +25,13 @@ returns c =
     let rich = c .before .before .by-budget in
     let high = c .before .by-priority in
     let tops = now (a .tops) in
-    let last : ℕ → ℕ → Bool = smaller (now (a .used)) (now (a .budgets)) in
-    let second : ℕ → ℕ → Bool = λ p q. a .order .priority && higher tops p q in
-    narrowed-twice (λ p q. a .order .budget && richer (a .solvent) p q) (λ p q. firstBy (second p q) (second q p) (last p q)) (a .competing) (rich .result)
-    (c .smallest .result) (rich .ensures)
-    (narrowed-twice second last (rich .result) (high .result) (c .smallest .result) (high .ensures) (c .smallest .ensures))
+    let first : ℕ → ℕ → Comparison = λ p q. asked (a .order .budget) (onSet (a .solvent) p q) in
+    let second : ℕ → ℕ → Comparison = λ p q. asked (a .order .priority) (onPriority tops p q) in
+    let last : ℕ → ℕ → Comparison = onFraction (now (a .used)) (now (a .budgets)) in
+    narrowed-twice first (λ p q. second p q then last p q) (asked-ordered (a .order .budget) (onSet (a .solvent)) (set-ordered (a .solvent)))
+    (a .competing) (rich .result) (c .smallest .result) (rich .ensures)
+    (narrowed-twice second last (asked-ordered (a .order .priority) (onPriority tops) (tops-ordered tops))
+    (rich .result) (high .result) (c .smallest .result) (high .ensures) (c .smallest .ensures))
 
 pub best-of-spec : {M : Type 1} → statement M
 best-of-spec =

@@ -11,9 +11,9 @@ decide-requires c κs = search needs
 returns : tie.Need-returns
 returns c =
     let a = c .before .args in
-    λ k ts q h sized settled held.
-    c .decide .ensures (stateOf (a .settings) (now (a .used)) k ts q)
-    (kept (a .settings) (now (a .used)) k ts q h (now (a .budgets)) (now (a .tops)) (now (a .firsts)) (a .sets) sized settled held)
+    λ k ts q h f sized settled held favoured.
+    c .decide .ensures (stateOf (a .settings) (now (a .used)) k ts q) f
+    (kept (a .settings) (now (a .used)) k ts q h (now (a .budgets)) (now (a .tops)) (now (a .firsts)) (a .sets) sized settled held) favoured
 
 pub choose-spec : {M : Type 1} → statement M
 choose-spec = tie.close (tie.spec decide-requires returns)

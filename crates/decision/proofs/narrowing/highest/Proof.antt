@@ -3,16 +3,16 @@ use Prim.Native.Nat.{ℕ}
 use native.Mathlib.Omega.{arith}
 use borrow.Author.Needs.{needs}
 use denote.Ref.{now}
-use lib.Dec.{ltb}
 use lib.ListN.{getD}
-use Rattle.decision.specs.Narrowing.{higher}
-use Rattle.decision.proofs.NarrowingLaws.{higher-weak, Passed, passed-start, passed-value, passed-all}
+use Rattle.units.specs.Units.{compareNumbers}
+use Rattle.decision.specs.Narrowing.{onPriority}
+use Rattle.decision.proofs.NarrowingLaws.{tops-ordered, Passed, passed-start, passed-value, passed-all}
 use Rattle.decision.proofs.narrowing.highest.Statement.{statement}
 use Rattle.decision.proofs.narrowing.highest.Tie as tie
 
 abbrev Inv-loop : tie.InvT-loop
 Inv-loop tops among p at kept top peak₀ left₀ peak left =
-    (b : ℕ) × (getD tops b 0 ≡ peak .top) × Passed (higher tops) among left (peak .kept) b
+    (b : ℕ) × (getD tops b 0 ≡ peak .top) × Passed (onPriority tops) among left (peak .kept) b
 
 abbrev μ-loop : tie.MeasureT-loop
 μ-loop tops among p at kept top peak₀ left₀ peak left = left
@@ -42,7 +42,7 @@ loop-holds c =
     let first = c .before .before .before .lowest in (
       first .result,
       refl,
-      passed-start (higher tops) (higher-weak tops) (start .args .among) (first .result) (c .rest .result) (c .before .before .only .result)
+      passed-start (onPriority tops) (tops-ordered tops) (start .args .among) (first .result) (c .rest .result) (c .before .before .only .result)
           (first .ensures) (c .rest .ensures .1 (first .result) (first .ensures)) (c .before .before .only .ensures),
     )
 
@@ -75,7 +75,7 @@ loop-again c =
     let next = c .before .before .before .lowest2 in
     let left = c .before .before .rest2 in
     let (b, e, h) = turn .inv in
-    passed-value (higher tops) (higher-weak tops) ℕ (λ x y. ltb y x) (λ p. getD tops p 0) (λ p q. refl) (start .args .among) (turn .left) (turn .peak .kept) b
+    passed-value (onPriority tops) (tops-ordered tops) ℕ compareNumbers (λ p. getD tops p 0) (λ p q. refl) (start .args .among) (turn .left) (turn .peak .kept) b
     (next .result) (left .result) (turn .peak .top) (getD tops (next .result) 0) (c .raise .result .top) (c .raise .result .kept) h (next .ensures)
     (left .ensures .1 (next .result) (next .ensures)) e refl (c .raise .ensures)
 
@@ -85,7 +85,7 @@ returns c =
     let start = c .before .before .before .before .before .before in
     let tops = now (start .args .tops) in
     let (b, e, h) = turn .inv in
-    passed-all (higher tops) (higher-weak tops) (start .args .among) (turn .left) (turn .peak .kept) b (c .loop-test .left) h
+    passed-all (onPriority tops) (tops-ordered tops) (start .args .among) (turn .left) (turn .peak .kept) b (c .loop-test .left) h
 
 pub highest-spec : {M : Type 1} → statement M
 highest-spec =

@@ -5,37 +5,43 @@ use borrow.Author.Needs.{needs}
 use Rattle.decision.proofs.narrowing.lower.Statement.{statement}
 use Rattle.decision.proofs.narrowing.lower.Tie as tie
 
-smaller-fraction-requires : tie.Need-smaller-fraction-requires
-smaller-fraction-requires c κs = search needs
+compare-fractions-requires : tie.Need-compare-fractions-requires
+compare-fractions-requires c κs = search needs
+
+enum-told : tie.Need-enum-told
+enum-told c = search needs
 
 only-requires : tie.Need-only-requires
 only-requires c κs = search needs
 
-returns : tie.Need-returns
-returns c = moved-ahead Fraction _ _ _ _ _ _ _ _ (sym (c .before .before .smaller-fraction .ensures) ∙ c .before .if1 .taken) refl (c .only .ensures)
+enum-told-2 : tie.Need-enum-told-2
+enum-told-2 c = search needs
 
-smaller-fraction-requires-2 : tie.Need-smaller-fraction-requires-2
-smaller-fraction-requires-2 c κs = search needs
-
-returns-2 : tie.Need-returns-2
-returns-2 c =
-    moved-behind Fraction _ _ _ _ _ _ _ _ (sym (c .before .before .before .smaller-fraction .ensures) ∙ c .before .before .if1 .left) (sym (c .before .smaller-fraction2 .ensures) ∙ c .if2 .taken) refl refl
+enum-told-3 : tie.Need-enum-told-3
+enum-told-3 c = search needs
 
 put-requires : tie.Need-put-requires
 put-requires c κs = search needs
 
+returns : tie.Need-returns
+returns c = moved-ahead Fraction _ _ _ _ _ _ _ (sym (c .before .before .before .compare-fractions .ensures) ∙ c .before .enum-told .given .1) refl (c .only .ensures)
+
+returns-2 : tie.Need-returns-2
+returns-2 c = moved-behind Fraction _ _ _ _ _ _ _ (sym (c .before .before .compare-fractions .ensures) ∙ c .enum-told2 .given .1) refl refl
+
 returns-3 : tie.Need-returns-3
-returns-3 c =
-    moved-level Fraction _ _ _ _ _ _ _ _ (sym (c .before .before .before .before .smaller-fraction .ensures) ∙ c .before .before .before .if1 .left) (sym (c .before .before .smaller-fraction2 .ensures) ∙ c .before .if2 .left) refl (c .put .ensures)
+returns-3 c = moved-level Fraction _ _ _ _ _ _ _ (sym (c .before .before .before .compare-fractions .ensures) ∙ c .before .enum-told3 .given .1) refl (c .put .ensures)
 
 pub lower-spec : {M : Type 1} → statement M
 lower-spec =
     tie.close
     (tie.spec
-    smaller-fraction-requires
+    compare-fractions-requires
+    enum-told
     only-requires
-    returns
-    smaller-fraction-requires-2
-    returns-2
+    enum-told-2
+    enum-told-3
     put-requires
+    returns
+    returns-2
     returns-3)

@@ -4,14 +4,14 @@ use borrow.Author.Needs.{needs}
 use denote.Ref.{now}
 use lib.ListN.{getD}
 use Rattle.units.specs.declared.Fraction.{Fraction}
-use Rattle.decision.specs.Narrowing.{smaller, smallerThan, fraction}
-use Rattle.decision.proofs.NarrowingLaws.{smaller-weak, Passed, passed-start, passed-value, passed-all}
+use Rattle.decision.specs.Narrowing.{onFraction, comparedFractions, fraction}
+use Rattle.decision.proofs.NarrowingLaws.{fractions-ordered, Passed, passed-start, passed-value, passed-all}
 use Rattle.decision.proofs.narrowing.smallest.Statement.{statement}
 use Rattle.decision.proofs.narrowing.smallest.Tie as tie
 
 abbrev Inv-loop : tie.InvT-loop
 Inv-loop used budgets among p kept front₀ left₀ front left =
-    (b : ℕ) × (fraction (getD used b 0) (getD budgets b 0) ≡ front .fraction) × Passed (smaller used budgets) among left (front .kept) b
+    (b : ℕ) × (fraction (getD used b 0) (getD budgets b 0) ≡ front .fraction) × Passed (onFraction used budgets) among left (front .kept) b
 
 abbrev μ-loop : tie.MeasureT-loop
 μ-loop used budgets among p kept front₀ left₀ front left = left
@@ -36,7 +36,7 @@ loop-holds c =
     let first = c .before .before .before .lowest in (
       first .result,
       sym (c .before .fraction-at .ensures),
-      passed-start (smaller used budgets) (smaller-weak used budgets) (start .args .among) (first .result) (c .rest .result)
+      passed-start (onFraction used budgets) (fractions-ordered used budgets) (start .args .among) (first .result) (c .rest .result)
           (c .before .before .only .result) (first .ensures) (c .rest .ensures .1 (first .result) (first .ensures)) (c .before .before .only .ensures),
     )
 
@@ -65,7 +65,7 @@ loop-again c =
     let left = c .before .before .rest2 in
     let x = c .before .fraction-at2 in
     let (b, e, h) = turn .inv in
-    passed-value (smaller used budgets) (smaller-weak used budgets) Fraction smallerThan (λ p. fraction (getD used p 0) (getD budgets p 0)) (λ p q. refl)
+    passed-value (onFraction used budgets) (fractions-ordered used budgets) Fraction comparedFractions (λ p. fraction (getD used p 0) (getD budgets p 0)) (λ p q. refl)
     (start .args .among) (turn .left) (turn .front .kept) b (next .result) (left .result) (turn .front .fraction) (x .result) (c .lower .result .fraction)
     (c .lower .result .kept) h (next .ensures) (left .ensures .1 (next .result) (next .ensures)) e (sym (x .ensures)) (c .lower .ensures)
 
@@ -76,7 +76,7 @@ returns c =
     let used = now (start .args .used) in
     let budgets = now (start .args .budgets) in
     let (b, e, h) = turn .inv in
-    passed-all (smaller used budgets) (smaller-weak used budgets) (start .args .among) (turn .left) (turn .front .kept) b (c .loop-test .left) h
+    passed-all (onFraction used budgets) (fractions-ordered used budgets) (start .args .among) (turn .left) (turn .front .kept) b (c .loop-test .left) h
 
 pub smallest-spec : {M : Type 1} → statement M
 smallest-spec =

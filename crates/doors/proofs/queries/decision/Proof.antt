@@ -3,9 +3,12 @@ use denote.Ref.{now}
 use Rattle.refusals.specs.Refusals.{outcomeOf}
 use Rattle.model.specs.Answers.{decidedOf}
 use Rattle.model.specs.Lent.{Lent, lent}
-use Rattle.model.specs.Arrays.{columns}
+use Rattle.model.specs.Arrays.{columns, stateOf}
+use Rattle.model.specs.Policy.{decide}
+use Rattle.decision.specs.Upkeep.{workedFor}
+use Rattle.decision.proofs.UpkeepLaws.{favoured-is}
 use Rattle.doors.specs.Inner.{Room}
-use Rattle.doors.proofs.Entering.{begins, regular, settled}
+use Rattle.doors.proofs.Entering.{begins, regular, settled, working}
 use Rattle.doors.proofs.Lending.{room}
 use Rattle.doors.proofs.Looking.{decision-no, decision-yes}
 use borrow.Author.Needs.{needs}
@@ -57,6 +60,11 @@ begin-requires c κs =
     let t = c .before .before .before .before .before in
     begins (read t .settings-in .result) (given t .used) (timed t .clock-in .result) (given t .threads) (given t .queue) (given t .history) (ready-room t) (sym (t .refused-state .ensures) ∙ ap outcomeOf (c .before .before .before .enum-told .given .1))
 
+favoured-in-requires : tie.Need-favoured-in-requires
+favoured-in-requires c κs =
+    let t = c .before .before .before .before .before .before in
+    working (read t .settings-in .result) (given t .used) (timed t .clock-in .result) (given t .threads) (given t .queue) (given t .history) (ready-room t) (sym (t .refused-state .ensures) ∙ ap outcomeOf (c .before .before .before .before .enum-told .given .1))
+
 choose-requires : tie.Need-choose-requires
 choose-requires c κs = search needs
 
@@ -68,13 +76,17 @@ returns c =
 
 returns-2 : tie.Need-returns-2
 returns-2 c =
-    let t = c .before .before .before .before .before .before .before .before .before .before in
-    let f = c .before .before .before .before .before .before .before .before .enum-told .given .1 in
+    let t = c .before .before .before .before .before .before .before .before .before .before .before in
+    let f = c .before .before .before .before .before .before .before .before .before .enum-told .given .1 in
     let z = sym (t .refused-state .ensures) ∙ ap outcomeOf f in
     let x = given t in
-    let b = c .before .before .before .before .begin in
-    decision-yes (given t) (read t .settings-in .result) (timed t .clock-in .result) (read t .settings-in .ensures) (timed t .clock-in .ensures) (t .refused-state .result) (t .refused-state .ensures) f (decidedOf (c .choose .result))
-    (c .choose .ensures (timed t .clock-in .result) (x .threads) (x .queue) (x .history) (regular (read t .settings-in .result) (given t .used) (timed t .clock-in .result) (given t .threads) (given t .queue) (given t .history) (ready-room t) z) (settled (read t .settings-in .result) (given t .used) (timed t .clock-in .result) (given t .threads) (given t .queue) (given t .history) (ready-room t) z) (b .ensures))
+    let s = read t .settings-in .result in
+    let k = timed t .clock-in .result in
+    let sized = regular s (x .used) k (x .threads) (x .queue) (x .history) (ready-room t) z in
+    decision-yes x s k (read t .settings-in .ensures) (timed t .clock-in .ensures) (t .refused-state .result) (t .refused-state .ensures) f (decidedOf (c .choose .result))
+    (c .choose .ensures k (x .threads) (x .queue) (x .history) (workedFor (x .threads .partitions) (k .running)) sized
+    (settled s (x .used) k (x .threads) (x .queue) (x .history) (ready-room t) z) (c .before .before .before .before .before .begin .ensures) (c .before .before .before .before .favoured-in .ensures)
+    ∙ ap (decide (stateOf s (x .used) k (x .threads) (x .queue))) (favoured-is s (x .used) k (x .threads) (x .queue) sized))
 
 pub decision-spec : {M : Type 1} → statement M
 decision-spec =
@@ -87,6 +99,7 @@ decision-spec =
     enum-known-outcome
     enum-told
     begin-requires
+    favoured-in-requires
     choose-requires
     returns
     returns-2)
