@@ -2,10 +2,11 @@
 """Each faulty definition and each faulty statement is shown to be wrong.
 
 That an edit is refused may only say that a proof follows the text. So for each edit of tools/must-break, and of must-fail in the crates of
-statements, the checker also proves that it is wrong: of a faulty definition, that a run, a place, a tie or a number of crate `cases` is another than
-the paper says (the line `shown:` of the edit names it), or that a promise is false with it; of a faulty statement, that it is false, by a run that is
-computed (LABEL.refuted, beside the edit). All that an edit reaches is copied into one crate, which must be proved whole. In a second crate, of the
-same proofs on the files as they are, every proof must fail. Every promise, a field of `Promised`, must have such a fault of its own.
+statements, the checker also proves that it is wrong: of a faulty definition, that a run, a place, a tie or a number of crate `cases` is another
+than the paper says (the line `shown:` of the edit names it), and of some that a promise is false with it; of a faulty statement, that it is false,
+by a run that is computed (LABEL.refuted, beside the edit). All that an edit reaches is copied into one crate, which must be proved whole. In a
+second crate, of the same proofs on the files as they are, every proof must fail. Every promise, a field of `Promised`, must have such a fault of
+its own.
 
     tests/refuted.py [LABEL ..]    all of them, or the named ones
 """
@@ -49,25 +50,29 @@ refuted = refl
 """
 
 
-def refutation(edit):
-    """The proof that an edit is wrong."""
-    beside = edit.path.with_suffix(".refuted")
+def refutations(edit):
+    """The proofs that an edit is wrong, as modules."""
+    found, beside = {}, edit.path.with_suffix(".refuted")
     if beside.exists():
-        return beside.read_text()
-    assert edit.shown, f"{edit.path}: neither a line `shown:` nor {beside.name}"
-    file, entry = edit.shown.split()
-    return SHOWN.format(file=file, entry=entry, test={"Runs": "agrees", "Places": "stand", "Ties": "won", "Refusals": "agree"}[file])
+        found["Refuted"] = beside.read_text()
+    if edit.shown:
+        file, entry = edit.shown.split()
+        test = {"Runs": "agrees", "Places": "stand", "Ties": "won", "Refusals": "agree"}[file]
+        found["Shown"] = SHOWN.format(file=file, entry=entry, test=test)
+    assert found, f"{edit.path}: neither a line `shown:` nor {beside.name}"
+    return found
 
 
 def crate_of(folder, edits, edited):
-    """A crate with a module for each edit, of the files that its refutation looks at, with the edit made in them or not."""
+    """A crate with a module for each edit, of the files that its refutations look at, with the edit made in them or not."""
     crate = Crate(folder, "refuted" if edited else "unrefuted", BELOW)
     shared = {("refuted", p.stem): HEAD + p.read_text() for p in (ROOT / "tests/refuted").glob("*.txt")}
     files = modules()
     for edit in edits:
-        texts = shared | {("refuted", "Refuted"): HEAD + refutation(edit)}
+        proofs = {("refuted", name): HEAD + text for name, text in refutations(edit).items()}
+        texts = shared | proofs
         graph = files | {m: uses(text, texts) for m, text in texts.items()}
-        there = reached(edit if edited else None, [("refuted", "Refuted")], graph, BELOW)
+        there = reached(edit if edited else None, proofs, graph, BELOW)
         for owner, module in there:
             file = f"crates/{owner}/specs/{module}.antt"
             text = texts.get((owner, module)) or (edit.applied(file) if edited else (ROOT / file).read_text())
@@ -76,7 +81,7 @@ def crate_of(folder, edits, edited):
 
 
 def errors(edit, said):
-    """What the checker said of an edit's refutation, and of what was copied for it."""
+    """What the checker said of an edit's refutations, and of what was copied for them."""
     own = re.compile(rf"^\S*/specs/{name_of(edit.label)}/(\S+?\.antt):\d+:\d+: (error: .*|unsolved .*|.* is not admitted.*)", re.M)
     return own.findall(said)
 
@@ -104,8 +109,8 @@ def main():
     edits, stated, wrong = faults(), promises(), {}
     refuted = set()
     for edit in edits:
-        if not edit.shown:
-            claim = re.search(r"^refuted : (\w+) → ⊥$", refutation(edit), re.M)
+        if "Refuted" in refutations(edit):
+            claim = re.search(r"^refuted : (\w+) → ⊥$", refutations(edit)["Refuted"], re.M)
             if claim and claim.group(1) in stated.values():
                 refuted.add(claim.group(1))
             else:
@@ -121,7 +126,8 @@ def main():
         said = crate_of(Path(folder) / "right", edits, False).check()
         (ROOT / "target/unrefuted.log").write_text(said)
         for edit in edits:
-            if not any(file == "refuted/Refuted.antt" for file, _ in errors(edit, said)):
+            failed = {file for file, _ in errors(edit, said)}
+            if not all(f"refuted/{name}.antt" in failed for name in refutations(edit)):
                 wrong.setdefault(edit.label, "what shows the fault wrong is proved without the fault too")
     for label, why in wrong.items():
         print(f"refuted: {label}: {why}")
