@@ -426,16 +426,20 @@ impl Comparison {
         let running: Vec<u8> = allowed.copied().chain([NO_THREAD]).collect();
         let mut changed = saved.clone();
         changed.state.running = self.random.pick(&running).into();
-        let [was, is] = [saved, &changed].map(|saved| states::plain(saved).decision());
-        self.tally.turned += u64::from(was != is);
+        let thread = changed.state.running as u8;
+        let state = &saved.state;
         let event = match self.below(8) {
-            0 => self.like_another(&saved.state),
-            1 => now(TICK, 0, &saved.state),
-            2 => now(RESUME, 0, &saved.state),
-            3 => now(BLOCK, changed.state.running as u8, &saved.state),
-            4 => now(END, changed.state.running as u8, &saved.state),
+            0 => self.like_another(state),
+            1 => now(TICK, 0, state),
+            2 => now(RESUME, 0, state),
+            3 => now(BLOCK, thread, state),
+            4 => now(END, thread, state),
             _ => return self.on_any_state(&changed, record),
         };
+        let plains = [saved, &changed].map(states::plain);
+        let decisions = plains.each_ref().map(Plain::decision);
+        let answers = plains.map(|mut plain| plain.event(&event));
+        self.tally.turned(decisions, answers);
         self.on_any_state(&changed, &event)
     }
 

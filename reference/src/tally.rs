@@ -34,8 +34,9 @@ pub struct Tally {
     idle: [u64; 2],
     /// Of these events, those that blocked and ended the state's running thread.
     left: [u64; 2],
-    /// Decisions that another running thread, or none, changed by itself.
-    pub turned: u64,
+    /// Decisions, and winners after an event of no time, that another running
+    /// thread, or none, changed by itself.
+    turned: [u64; 2],
     /// Decisions on what an accepted event left, which have to be that event's;
     /// and those where two or more were tied and the lowest did not win.
     repeated: [u64; 2],
@@ -70,6 +71,15 @@ impl Tally {
         }
     }
 
+    /// Two states that differ in the running thread alone were asked for their
+    /// decision, and given an event of no time, or a resume.
+    pub fn turned(&mut self, decisions: [Line; 2], answers: [Line; 2]) {
+        for (count, [one, other]) in self.turned.iter_mut().zip([decisions, answers]) {
+            let accepted = one.refusal == 0 && other.refusal == 0;
+            *count += u64::from(accepted && one.partition != other.partition);
+        }
+    }
+
     /// The decision on what an accepted event left was the event's.
     pub fn repeated(&mut self, answer: &Line, lowest: Option<usize>) {
         let is_lowest = lowest.is_none_or(|lowest| lowest == usize::from(answer.partition));
@@ -85,7 +95,7 @@ impl Tally {
             && all(&self.favoured)
             && all(&self.idle)
             && all(&self.left)
-            && all(&[self.turned])
+            && all(&self.turned)
             && all(&self.repeated)
     }
 }
@@ -147,8 +157,12 @@ impl fmt::Display for Tally {
         let [decisions, events] = self.idle;
         writeln!(
             f,
-            "changed states that idle before a tie: {decisions} decisions, {events} events; decisions that another running thread alone changed: {}",
-            self.turned
+            "changed states that idle before a tie: {decisions} decisions, {events} events"
+        )?;
+        let [decisions, events] = self.turned;
+        writeln!(
+            f,
+            "another running thread, or none, alone made another partition win: {decisions} decisions, {events} events of no time"
         )?;
         let [all, ties] = self.repeated;
         writeln!(

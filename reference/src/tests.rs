@@ -1137,6 +1137,9 @@ fn a_newcomer_that_is_equal_waits() {
         let mut s = level(&[25, 25, 25, 25], &order);
         assert_eq!(s.tied(), 0b1111);
         assert_eq!(s.running(), first);
+        assert_eq!(s.decision().partition, first);
+        // A refused event changes nothing, and not this either.
+        assert_eq!(refused(&mut s, &tick(2001)), 10);
         // So at a tick of no time, at a create, and at a second newcomer.
         assert_eq!(took(&mut s, tick(0)), (2, first, first));
         assert_eq!(took(&mut s, create(9, 0, 10, 1, 0)), (2, first, first));
@@ -1253,7 +1256,7 @@ fn a_given_state_says_who_is_favoured() {
     // "The decision door takes the state's running thread for it." While idle
     // there is none, and "otherwise the lowest number" wins.
     let mut given = Plain::new(&settings(4, 1000, 0, 0, &[40, 30, 30]));
-    for t in 0..3 {
+    for t in [2, 0, 1] {
         given.event(&create(t, t, 10, 1, 0));
         given.event(&create(10 + t, t, 10, 1, 0));
         given.event(&ready(t, 0));
@@ -1276,12 +1279,13 @@ fn a_given_state_says_who_is_favoured() {
             assert_eq!(after.decision().partition, winner);
         }
     }
-    // The favoured one is worse: by priority, and by the cycle that it is
-    // charged.
+    // The favoured one is worse, by priority, and as good after the event: it
+    // wins, although the rules would not have run it before.
     given.running = Some(1);
     given.threads[0].as_mut().unwrap().priority = 11;
     assert_eq!(given.decision().partition, 0);
-    given.threads[0].as_mut().unwrap().priority = 10;
+    assert_eq!(given.event(&set(0, 10, 0)).partition, 1);
+    // It is worse by the cycle that it is charged.
     assert_eq!(given.decision().partition, 1);
     assert_eq!(given.event(&tick(1)).partition, 0);
 }
