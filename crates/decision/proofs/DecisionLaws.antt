@@ -27,11 +27,13 @@ use Rattle.model.specs.Choices.{Ordered, Won}
 use Rattle.model.specs.Answers.{modeOf, decidedOf}
 use Rattle.model.specs.declared.Mode.{Mode}
 use Rattle.model.specs.declared.Mode.the-variants.{Idle, FreeTime, Underload, AtLimit}
-use Rattle.model.proofs.Order.{apart, not-better, not-worse, reversed-better, ordered}
+use Rattle.model.proofs.Order.{apart, not-better, not-worse, reversed-better, by-both, ordered}
 use Rattle.model.proofs.Winner.{same-partition, favours-it, it-is-favoured, winner-won, winner-is}
 use Rattle.accounts.specs.Kept.{Kept, level}
-use Rattle.decision.specs.Narrowing.{Narrowed, onSet, onPriority, onFraction}
-use Rattle.decision.specs.Orders.{modeBy, orderBy, asked, comparedBy, comparedIn}
+use Rattle.decision.specs.Narrowing.{Narrowed, Wins, onSet, onPriority, onFraction}
+use Rattle.decision.specs.Orders.{modeBy, orderBy, asked, comparedBy, levelIn, comparedIn}
+use Rattle.decision.specs.declared.Order.{Order}
+use Rattle.decision.proofs.NarrowingLaws.{set-ordered, tops-ordered, narrowed-twice}
 use Rattle.decision.specs.Decides.{Favoured}
 
 -- ---- the mode
@@ -104,6 +106,11 @@ unfolding asked
 asked-ordered true R o = o
 asked-ordered false R o = record { mirrored = λ p q. refl; transitive = λ p q r m n. m }
 
+pub level-ordered : (o : Order) (solvent : ℕ) (tops : List ℕ) → Ordered (levelIn o solvent tops)
+level-ordered o solvent tops =
+    by-both (λ p q. asked (o .budget) (onSet solvent p q)) (λ p q. asked (o .priority) (onPriority tops p q))
+    (asked-ordered (o .budget) (onSet solvent) (set-ordered solvent)) (asked-ordered (o .priority) (onPriority tops) (tops-ordered tops))
+
 -- top priorities are kept as one more than they are
 one-more : (a b : ℕ) → compareNumbers (a + 1) (b + 1) ≡ compareNumbers a b
 unfolding compareNumbers
@@ -116,18 +123,30 @@ one-more a b = rw (shifted b a, shifted a b)
         go (yes h) = lt-ltb (x + 1) (y + 1) (omega arith) ∙ sym (lt-ltb x y h)
         go (no h) = le-ltb (x + 1) (y + 1) (omega arith) ∙ sym (le-ltb x y (omega arith))
 
+all-three : (a b c : Comparison) → ((a then b) then c) ≡ (a then b then c)
+unfolding _then_
+all-three Better b c = refl
+all-three Worse b c = refl
+all-three Equal b c = refl
+
+two : (a b : Comparison) → ((a then Equal) then b) ≡ (a then b)
+unfolding _then_
+two Better b = refl
+two Worse b = refl
+two Equal b = refl
+
 -- the mode table's column of orders, over what p is against q in the state
 compared-is : (s : State) (p q : ℕ) (m : Mode)
     → comparedBy (orderBy m (s .settings .policy)) (byBudget s p q) (byPriority s p q) (byFraction s p q) ≡ compare s (modeOf m) p q
 unfolding asked compare ratioPolicy _then_
-compared-is s p q Idle = refl
+compared-is s p q Idle = all-three (byBudget s p q) (byPriority s p q) (byFraction s p q)
 compared-is s p q FreeTime = go (eqb (s .settings .policy) 1)
   where
     go : (z : Bool) → comparedBy (record { budget = true; priority = not z }) (byBudget s p q) (byPriority s p q) (byFraction s p q)
         ≡ cond z (byBudget s p q then byFraction s p q) (byBudget s p q then byPriority s p q then byFraction s p q)
-    go true = refl
-    go false = refl
-compared-is s p q Underload = refl
+    go true = two (byBudget s p q) (byFraction s p q)
+    go false = all-three (byBudget s p q) (byPriority s p q) (byFraction s p q)
+compared-is s p q Underload = all-three (byBudget s p q) (byPriority s p q) (byFraction s p q)
 compared-is s p q AtLimit = refl
 
 -- ---- the winner
@@ -201,8 +220,21 @@ module _ (s : State) (totals budgets tops firsts : List ℕ) (policy paying set 
       ∙ compared-is s p q m ∙ ap (λ (n : ℕ). compare s n p q) e
 
   -- of those tied for best, the favoured one, or else the lowest, is the winner
-  module _ (m : Mode) (made : m ≡ modeBy paying set solvent) (f : Option ℕ) (favoured tied best w : ℕ) (is : Favoured f favoured)
-      (n : Narrowed (comparedIn (orderBy m policy) solvent tops totals budgets) set tied) (c : Narrowed (onSet favoured) tied best) (l : Lowest 16 best w) where
+  module _ (m : Mode) (made : m ≡ modeBy paying set solvent) (f : Option ℕ) (favoured level w : ℕ) (is : Favoured f favoured)
+      (best : Narrowed (levelIn (orderBy m policy) solvent tops) set level) (wins : Wins totals budgets level favoured w) where
+    abbrev tied : ℕ
+    tied = wins .tied
+
+    n : Narrowed (comparedIn (orderBy m policy) solvent tops totals budgets) set tied
+    n = narrowed-twice (levelIn (orderBy m policy) solvent tops) (onFraction totals budgets) (level-ordered (orderBy m policy) solvent tops)
+        set level tied best (wins .best)
+
+    c : Narrowed (onSet favoured) tied (wins .kept)
+    c = wins .preferred
+
+    l : Lowest 16 (wins .kept) w
+    l = wins .lowest
+
     e : modeOf m ≡ mode s
     e = ap modeOf made ∙ mode-is
 

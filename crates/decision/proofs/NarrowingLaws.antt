@@ -1,24 +1,25 @@
 -- A set is narrowed by one pass over it, in the order of its numbers; two comparisons one after the other narrow it as one does that has both.
 use mathlib.Core.Logic.{_≢_, _⊎_, inl, inr}
 use mathlib.Core.Path.{_≡_, refl, sym, ap, ap₂, subst, _∙_}
-use Prim.Native.Nat.{ℕ, _<_}
+use Prim.Native.Nat.{ℕ, _≤_, _<_}
 use mathlib.Core.Bool.{Bool, true, false, not, _&&_, _||_}
 use mathlib.Core.List.{List}
 use lib.ListN.{getD}
 use lib.Dec.{eqb}
+use native.Mathlib.Omega.{arith}
 use native.Mathlib.Decide.{ℕ-discrete}
-use borrow.Author.Tests.{eq-eqb, ne-eqb, eqb-true}
+use borrow.Author.Tests.{eq-eqb, ne-eqb, eqb-true, lt-ltb, le-ltb}
 use Rattle.lists.proofs.Tests.{clash, both}
 use Rattle.sets.specs.Bits.{inSet, Put, TakenOut, Only, Lowest}
 use lib.Bits.{bitAnd}
 use Rattle.sets.proofs.Laws.{none, and-set}
-use Rattle.units.specs.Units.{compareFlags}
+use Rattle.units.specs.Units.{compareNumbers, compareFlags}
 use Rattle.units.specs.declared.Comparison.{Comparison}
 use Rattle.units.specs.declared.Comparison.the-variants.{Better, Worse, Equal}
 use Rattle.model.specs.Policy.{_then_}
 use Rattle.model.specs.Choices.{Ordered}
 use Rattle.model.proofs.Order.{apart, not-better, not-worse, itself, reversed-better, reversed-worse, reversed-equal, other-way, better-than, than-better, by-flags, by-key, by-fractions}
-use Rattle.decision.specs.Narrowing.{Narrowed, OneMore, onSet, onPriority, onFraction}
+use Rattle.decision.specs.Narrowing.{Narrowed, Wins, OneMore, onSet, onPriority, onFraction}
 
 -- ---- the comparisons are orders
 
@@ -225,6 +226,20 @@ module _ (R : ℕ → ℕ → Comparison) (o : Ordered R) where
       out : (i : ℕ) → inSet left i ≡ false
       out i = ap (λ (k : ℕ). inSet k i) z ∙ none i
 
+-- two numbers, of which the larger is better
+module _ (a b : ℕ) where
+  pub number-better : b < a → compareNumbers a b ≡ Better
+  unfolding compareNumbers
+  number-better h = rw (lt-ltb b a h)
+
+  pub number-worse : a < b → compareNumbers a b ≡ Worse
+  unfolding compareNumbers
+  number-worse h = rw (le-ltb b a (omega arith), lt-ltb a b h)
+
+  pub number-equal : a ≤ b → b ≤ a → compareNumbers a b ≡ Equal
+  unfolding compareNumbers
+  number-equal h k = rw (le-ltb b a h, le-ltb a b k)
+
 module _ (A : Type 0) (c : Comparison) (old new : A) (kept p : ℕ) (value : A) (set : ℕ) where
   pub moved-ahead : c ≡ Better → value ≡ new → Only 16 p set → OneMore A c old new kept p value set
   moved-ahead e v s = record { ahead = λ f. (v, s); behind = λ f. apart (sym e ∙ f); level = λ f. not-better (sym e ∙ f) }
@@ -297,6 +312,33 @@ module _ (P Q : ℕ → ℕ → Comparison) (o : Ordered P) (w v r : ℕ) (a : N
       ahead i q c d e f g z k Worse m = absurd (a .unbeaten i q c d (b .inside i c e) f (reversed-worse P o i q m))
       ahead i q c d e f g true k Equal m = b .beaten i q c d e k g
       ahead i q c d e f g false k Equal m = not-better (sym (a .beaten i q c d (b .inside i c e) f k) ∙ m)
+
+-- ---- one that is alone
+
+module _ (w p rest : ℕ) (n : w ≢ 0) (l : Lowest 16 w p) (t : TakenOut 16 w p rest) (z : rest ≡ 0) where
+  alone : (i : ℕ) → i < 16 → inSet w i ≡ true → i ≡ p
+  alone i b e = go (gone w p rest i b t (ap (λ (k : ℕ). inSet k i) z ∙ none i))
+    where
+      go : (i ≡ p) ⊎ (inSet w i ≡ false) → i ≡ p
+      go (inl x) = x
+      go (inr f) = clash e f
+
+  narrowed-alone : (R : ℕ → ℕ → Comparison) → Ordered R → Narrowed R w w
+  narrowed-alone R o = record {
+    some = n;
+    inside = λ i b e. e;
+    unbeaten = λ i q b c e f. equal-not-better (ap₂ R (alone q c f) (alone i b e) ∙ itself R o p);
+    beaten = λ i q b c e f g. clash f g;
+  }
+
+  pub wins-alone : (used budgets : List ℕ) (favoured : ℕ) → Wins used budgets w favoured p
+  wins-alone used budgets favoured = record {
+    tied = w;
+    kept = w;
+    best = narrowed-alone (onFraction used budgets) (fractions-ordered used budgets);
+    preferred = narrowed-alone (onSet favoured) (set-ordered favoured);
+    lowest = l;
+  }
 
 -- where two are always equal, all are level
 pub narrowed-none : (w : ℕ) → w ≢ 0 → Narrowed (λ p q. Equal) w w

@@ -5,7 +5,7 @@ use Prim.Native.Nat.{ℕ, _<_}
 use mathlib.Core.Bool.{true, false}
 use mathlib.Core.List.{List}
 use lib.ListN.{getD}
-use Rattle.sets.specs.Bits.{inSet, Only, Put}
+use Rattle.sets.specs.Bits.{inSet, Only, Put, Lowest}
 use Rattle.units.specs.Units.{compareNumbers, compareFlags, compareFractions}
 use Rattle.units.specs.declared.Comparison.{Comparison}
 use Rattle.units.specs.declared.Comparison.the-variants.{Better, Worse, Equal}
@@ -37,6 +37,17 @@ fraction used budget = record { used = record { 0 = used }; budget = record { 0 
 
 abbrev pub comparedFractions : Fraction → Fraction → Comparison
 comparedFractions a b = compareFractions (a .used .0) (a .budget .0) (b .used .0) (b .budget .0)
+
+-- ---- the winner
+
+-- w wins among those that are level up to the fraction used: of those with the smallest fraction, tied for best, it is the favoured one, if that is
+-- one of them; otherwise the lowest
+pub record Wins (used budgets : List ℕ) (level favoured w : ℕ) : Type 0 where
+  pub tied : ℕ
+  pub kept : ℕ
+  pub best : Narrowed (onFraction used budgets) level tied
+  pub preferred : Narrowed (onSet favoured) tied kept
+  pub lowest : Lowest 16 kept w
 
 -- ---- one partition more
 

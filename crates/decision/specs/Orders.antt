@@ -34,7 +34,10 @@ asked on c = cond on c Equal
 
 -- what one partition is against another: on has budget, then on top priority, each where the order has it, then on the fraction
 abbrev pub comparedBy : Order → Comparison → Comparison → Comparison → Comparison
-comparedBy o budget priority fraction = asked (o .budget) budget then asked (o .priority) priority then fraction
+comparedBy o budget priority fraction = (asked (o .budget) budget then asked (o .priority) priority) then fraction
+
+abbrev pub levelIn : Order → ℕ → List ℕ → ℕ → ℕ → Comparison
+levelIn o solvent tops p q = asked (o .budget) (onSet solvent p q) then asked (o .priority) (onPriority tops p q)
 
 abbrev pub comparedIn : Order → ℕ → List ℕ → List ℕ → List ℕ → ℕ → ℕ → Comparison
 comparedIn o solvent tops used budgets p q = comparedBy o (onSet solvent p q) (onPriority tops p q) (onFraction used budgets p q)

@@ -6,8 +6,8 @@ pub mod narrowing;
 
 ghost use mathlib.Core.Logic.{_≢_};
 ghost use mathlib.Core.Path.{_≡_};
-ghost use Rattle.decision.specs.Narrowing.{Narrowed, onSet, onPriority};
-ghost use Rattle.decision.specs.Orders.{modeBy, orderBy, asked, comparedIn};
+ghost use Rattle.decision.specs.Narrowing.{Narrowed, Wins, onSet, onPriority};
+ghost use Rattle.decision.specs.Orders.{modeBy, orderBy, asked, levelIn};
 ghost use Rattle.decision.specs.Decides.{Decides};
 use model::Decision;
 use model::Mode;
@@ -82,24 +82,30 @@ fn by_priority(order: Order, tops: &[u16; 16], among: u16) -> u16
     among
 }
 
-// Those of the competing partitions that none is better than: all that are tied for best.
-fn best_of(
-    used: &[u32; 16],
-    budgets: &[u32; 16],
-    tops: &[u16; 16],
-    order: Order,
-    competing: u16,
-    solvent: u16,
-) -> u16
+// Those of the competing partitions that are best on has budget and, among these, on top priority: they are level up to the fraction used.
+fn level_of(tops: &[u16; 16], order: Order, competing: u16, solvent: u16) -> u16
     requires { ⌜ competing ≢ 0 ⌝ }
-    ensures { λ r. ⌜ Narrowed (comparedIn order solvent (now (tops .entry)) (now (used .entry)) (now (budgets .entry))) competing r ⌝ }
+    ensures { λ r. ⌜ Narrowed (levelIn order solvent (now (tops .entry))) competing r ⌝ }
 {
     let rich = by_budget(order, competing, solvent);
-    let high = by_priority(order, tops, rich);
-    narrowing::smallest(used, budgets, high)
+    by_priority(order, tops, rich)
 }
 
-// The decision. Among those tied for best the favoured partition wins, if it is one of them; otherwise the lowest number.
+// The winner of those: the smallest fraction, and among all that have it, which are tied for best, the favoured partition, if it is one of them;
+// otherwise the lowest number. One that is alone wins as it is.
+fn winner_of(used: &[u32; 16], budgets: &[u32; 16], level: u16, favoured: u16) -> u8
+    requires { ⌜ level ≢ 0 ⌝ }
+    ensures { λ r. ⌜ Wins (now (used .entry)) (now (budgets .entry)) level favoured r ⌝ }
+{
+    if sets::rest(level) == 0 {
+        return sets::lowest(level);
+    }
+    let tied = narrowing::smallest(used, budgets, level);
+    let kept = narrowing::preferred(tied, favoured);
+    sets::lowest(kept)
+}
+
+// The decision, with the set of the favoured partition.
 pub fn decide(
     used: &[u32; 16],
     budgets: &[u32; 16],
@@ -124,9 +130,8 @@ pub fn decide(
         };
     }
     let order = order_in(mode, policy);
-    let tied = best_of(used, budgets, tops, order, competing, solvent);
-    let kept = narrowing::preferred(tied, favoured);
-    let winner = sets::lowest(kept);
+    let level = level_of(tops, order, competing, solvent);
+    let winner = winner_of(used, budgets, level, favoured);
     let at = winner as usize;
     let thread = firsts[at];
     Decision {

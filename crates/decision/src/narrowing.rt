@@ -34,35 +34,23 @@ pub fn preferred(among: u16, set: u16) -> u16
     both
 }
 
-// The higher top priority is better.
-fn compare_tops(a: u16, b: u16) -> Comparison
-    ensures { λ r. ⌜ r ≡ compareNumbers a b ⌝ }
-{
-    if b < a {
-        return Comparison::Better;
-    }
-    if a < b {
-        return Comparison::Worse;
-    }
-    Comparison::Equal
-}
-
 // The partitions of the top priority after one more.
 fn raise(k: Peak, p: u8, top: u16) -> Peak
     requires { ⌜ p < 16 ⌝ }
     ensures { λ r. ⌜ OneMore ℕ (compareNumbers top (k .top)) (k .top) top (k .kept) p (r .top) (r .kept) ⌝ }
 {
-    let against = compare_tops(top, k.top);
-    match against {
-        Comparison::Better => Peak {
+    if k.top < top {
+        return Peak {
             kept: sets::only(p),
             top: top,
-        },
-        Comparison::Worse => k,
-        Comparison::Equal => Peak {
-            kept: sets::put(k.kept, p),
-            top: k.top,
-        },
+        };
+    }
+    if top < k.top {
+        return k;
+    }
+    Peak {
+        kept: sets::put(k.kept, p),
+        top: k.top,
     }
 }
 
