@@ -38,14 +38,18 @@ kept c u k ts q h budgets tops firsts sets sized settled held = record {
 
 -- ---- the favoured partition
 
-module _ (partitions : List ℕ) (running : ℕ) where
-  pub favours-none : running ≡ idle → Favoured (workedFor partitions running) 0
-  unfolding favours
-  favours-none e = λ p b. rw (eq-eqb running idle e) (bits.none p)
+-- the partition f of a thread, or none where the thread's number is that of none
+module _ (thread f : ℕ) where
+  abbrev partitionOf : Option ℕ
+  partitionOf = cond (eqb thread idle) none (some f)
 
-  pub favours-one : running ≢ idle → (set : ℕ) → Only 16 (getD partitions running 0) set → Favoured (workedFor partitions running) set
+  pub favours-none : thread ≡ idle → Favoured partitionOf 0
   unfolding favours
-  favours-one n set only = λ p b. rw (ne-eqb running idle n) (only p b)
+  favours-none e = λ p b. rw (eq-eqb thread idle e) (bits.none p)
+
+  pub favours-one : thread ≢ idle → (set : ℕ) → Only 16 f set → Favoured partitionOf set
+  unfolding favours
+  favours-one n set only = λ p b. rw (ne-eqb thread idle n) (only p b)
 
 module _ (c : Settings) (u : List ℕ) (k : Clock) (ts : Columns) (q : List ℕ) (sized : Regular ts) where
   -- the partition that the running thread works for is the state's favoured one

@@ -36,6 +36,10 @@ HeldBy c u k ts q budgets tops firsts sets = Held c u (ts .partitions) (ts .prio
 abbrev pub workedFor : List ℕ → ℕ → Option ℕ
 workedFor partitions running = cond (eqb running idle) none (some (getD partitions running 0))
 
+-- the partition that the decision's thread works for
+abbrev pub decidedFor : Decision → Option ℕ
+decidedFor d = cond (eqb (d .thread) idle) none (some (d .partition))
+
 -- the running thread is a thread's number, and its partition a partition's; or nothing runs
 abbrev pub Works : List ℕ → ℕ → Type 0
 Works partitions running = running ≢ idle → (running < 64) × (getD partitions running 0 < 16)

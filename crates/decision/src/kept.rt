@@ -1,11 +1,12 @@
 // What a run keeps beside the state, as a whole: made once, and the decision from it.
+ghost use mathlib.Core.Logic.{_≢_};
 ghost use lib.ListN.{take};
 ghost use Rattle.sheet.specs.Settings.{Limits};
 ghost use Prim.Native.Nat.{_<_};
 ghost use Rattle.decision.specs.Keeping.{KeptIn, Lined};
 ghost use Rattle.decision.specs.Follow.{Followed, FollowedPriority, FollowedTurn};
 ghost use Rattle.decision.specs.Decides.{Favoured};
-ghost use Rattle.decision.specs.Upkeep.{Held, workedFor, Works, DecidesKept};
+ghost use Rattle.decision.specs.Upkeep.{Held, workedFor, decidedFor, Works, DecidesKept};
 use crate::leads;
 use accounts::IDLE;
 use accounts::solvency;
@@ -68,6 +69,17 @@ pub fn favoured_in(partitions: &[u8; 64], running: u32) -> u16
         return 0;
     }
     sets::only(partitions[running as usize])
+}
+
+// The same of the thread that was decided for, which runs until the next event: its partition is the one that the decision names.
+pub fn favoured_after(d: Decision) -> u16
+    requires { ⌜ (d .thread ≢ 255 → d .partition < 16) ⌝ }
+    ensures { λ r. ⌜ Favoured (decidedFor d) r ⌝ }
+{
+    if d.thread == 255 {
+        return 0;
+    }
+    sets::only(d.partition)
 }
 
 // The decision, with the set of the favoured partition.

@@ -20,7 +20,8 @@ use Rattle.model.proofs.Accepted.{fit-of}
 use Rattle.model.proofs.Flags.{accepted}
 use Rattle.decision.specs.Keeping.{Lined}
 use Rattle.decision.proofs.States.{lined}
-use Rattle.decision.specs.Upkeep.{HeldBy, Works}
+use Rattle.decision.specs.Decides.{Favoured}
+use Rattle.decision.specs.Upkeep.{HeldBy, workedFor, Works}
 use Rattle.decision.proofs.UpkeepLaws.{works}
 use Rattle.decision.specs.declared.kept.Sets.{Sets}
 use Rattle.scheduler.specs.Stepping.{Whole, StepAnswered, Still}
@@ -53,25 +54,26 @@ module _ (c : Settings) (u : List ℕ) (k : Clock) (ts : Columns) (q h : List �
   pub begins : Limits c × Lined (ts .partitions) q (k .queued) (c .core)
   begins = (settled .limits, lined c u k ts q regular h settled (room .full))
 
-  pub whole : (budgets tops firsts : List ℕ) (sets : Sets) → HeldBy c u k ts q budgets tops firsts sets
-      → Whole c u k ts q h budgets tops firsts sets
-  whole budgets tops firsts sets held = record {
+  pub whole : (budgets tops firsts : List ℕ) (sets : Sets) (favoured : ℕ) → HeldBy c u k ts q budgets tops firsts sets
+      → Favoured (workedFor (ts .partitions) (k .running)) favoured → Whole c u k ts q h budgets tops firsts sets favoured
+  whole budgets tops firsts sets favoured held favours = record {
     sixteen = room .sixteen;
     shares = room .shares;
     sizes = regular;
     full = room .full;
     taken = taken;
     held = held;
+    favours = favours;
   }
 
   module _ (u′ : List ℕ) (k′ : Clock) (ts′ : Columns) (q′ h′ : List ℕ) where
-    pub entered : (b : List ℕ) (w : Verdict) (budgets tops firsts : List ℕ) (sets : Sets)
-        → StepAnswered c v b w u′ k′ ts′ q′ h′ budgets tops firsts sets → Still v b u k ts q h u′ k′ ts′ q′ h′
+    pub entered : (b : List ℕ) (w : Verdict) (budgets tops firsts : List ℕ) (sets : Sets) (favoured : ℕ)
+        → StepAnswered c v b w u′ k′ ts′ q′ h′ budgets tops firsts sets favoured → Still v b u k ts q h u′ k′ ts′ q′ h′
         → Entered c u k ts q h b w u′ k′ ts′ q′ h′
-    entered b w budgets tops firsts sets a still = record {
+    entered b w budgets tops firsts sets favoured a still = record {
       line = a .line;
       after = a .after;
-      taken = taken-arrays c u′ k′ ts′ q′ h′ budgets tops firsts sets (a .whole);
+      taken = taken-arrays c u′ k′ ts′ q′ h′ budgets tops firsts sets favoured (a .whole);
       still = still;
     }
 

@@ -53,6 +53,7 @@ fn enter(
         &mut tops,
         &mut firsts,
     );
+    let favoured = kept::favoured_in(partitions, c.running);
     batch::steps(
         settings,
         used,
@@ -70,6 +71,7 @@ fn enter(
         history,
         c,
         sets,
+        favoured,
         events,
         out,
         n,

@@ -57,6 +57,7 @@ fn enter(
         &mut tops,
         &mut firsts,
     );
+    let favoured = kept::favoured_in(partitions, c.running);
     let s = scheduler::step(
         settings,
         used,
@@ -74,6 +75,7 @@ fn enter(
         history,
         c,
         sets,
+        favoured,
         event,
     );
     let verdict = s.verdict;

@@ -1,6 +1,6 @@
 -- What the decision is, in a state that is sound but for its running thread.
 use mathlib.Core.Logic.{_≢_}
-use mathlib.Core.Path.{_≡_, refl, ap}
+use mathlib.Core.Path.{_≡_, refl, sym, ap, _∙_}
 use Prim.Native.Nat.{ℕ, _<_}
 use mathlib.Core.Bool.{Bool, true, false, cond}
 use mathlib.Core.Option.{Option, none, some}
@@ -105,6 +105,16 @@ module _ (s : State) (h : List ℕ) (k : Settled s h) (f : Option ℕ) where
           let z : decide s f .thread ≡ idle = ap (λ (d : Decided). d .thread) (decide-idle e) in
           record { queued = λ n. absurd (n z); allowed = λ n. absurd (n z) }
       go (some w) e = let d : Picks w (decide s f) = decide-picks w e in record { queued = λ n. d .allowed .queued; allowed = λ n. d .allowed .allowed }
+
+  -- and it is a thread of the partition that the decision names
+  pub decide-works : decide s f .thread ≢ idle
+      → (thread s (decide s f .thread) .partition ≡ decide s f .partition) × (decide s f .partition < s .settings .count)
+  decide-works n = go (winner s f) refl
+    where
+      go : (o : Option ℕ) → winner s f ≡ o
+          → (thread s (decide s f .thread) .partition ≡ decide s f .partition) × (decide s f .partition < s .settings .count)
+      go none e = absurd (n (ap (λ (d : Decided). d .thread) (decide-idle e)))
+      go (some w) e = let d : Picks w (decide s f) = decide-picks w e in (d .thread-partition ∙ sym (d .partition), d .busy .won .inside)
 
 -- once the decision's thread runs, the partition that is billed is the winner
 pub billed-winner : (f : Option ℕ) (x : Saved) → Settled (x .state) (x .history) → billed (settle f x .state) ≡ winner (x .state) f

@@ -41,11 +41,12 @@ pub fn steps(
     history: &mut [u32],
     c: Clock,
     sets: Sets,
+    favoured: u16,
     events: &[u8],
     out: &mut [u8],
     n: usize,
 ) -> Clock
-    requires { ⌜ Whole settings (now used) c (columns (now exists) (now ready) (now partitions) (now priorities) (now masks) (now policies) (now slices)) (now queue) (now history) (now budgets) (now tops) (now firsts) sets × (n ≤ eventCount (now events)) × (12 * n ≤ length (now out)) ⌝ }
+    requires { ⌜ Whole settings (now used) c (columns (now exists) (now ready) (now partitions) (now priorities) (now masks) (now policies) (now slices)) (now queue) (now history) (now budgets) (now tops) (now firsts) sets favoured × (n ≤ eventCount (now events)) × (12 * n ≤ length (now out)) ⌝ }
     ensures { λ r. ⌜
         (saved (stateOf settings (now (used .exit)) r (columns (now (exists .exit)) (now (ready .exit)) (now (partitions .exit)) (now (priorities .exit)) (now (masks .exit)) (now (policies .exit)) (now (slices .exit))) (now (queue .exit))) (now (history .exit)) ≡ Run.after (saved (stateOf settings (now (used .entry)) c (columns (now (exists .entry)) (now (ready .entry)) (now (partitions .entry)) (now (priorities .entry)) (now (masks .entry)) (now (policies .entry)) (now (slices .entry))) (now (queue .entry))) (now (history .entry))) (eventsIn (now (events .entry)) n))
         × (now (out .exit) ≡ linesOf (Run.run (saved (stateOf settings (now (used .entry)) c (columns (now (exists .entry)) (now (ready .entry)) (now (partitions .entry)) (now (priorities .entry)) (now (masks .entry)) (now (policies .entry)) (now (slices .entry))) (now (queue .entry))) (now (history .entry))) (eventsIn (now (events .entry)) n)) ++ drop (12 * n) (now (out .entry)))
@@ -54,6 +55,7 @@ pub fn steps(
 {
     let mut t = c;
     let mut kept = sets;
+    let mut ran = favoured;
     let mut i: usize = 0;
     while i < n {
         let at = 12 * i;
@@ -76,6 +78,7 @@ pub fn steps(
             history,
             t,
             kept,
+            ran,
             &events[at..end],
         );
         let verdict = answer.verdict;
@@ -96,6 +99,7 @@ pub fn steps(
             competing: s.competing,
             solvent: s.solvent,
         };
+        ran = answer.favoured;
         i += 1;
     }
     t

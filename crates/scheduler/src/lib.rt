@@ -17,14 +17,16 @@ ghost use Rattle.model.specs.Step.{saved};
 ghost use Rattle.event.specs.Bytes.{bytesOf};
 ghost use Rattle.scheduler.specs.Stepping.{Whole, StepAnswered, Still, refusedBy};
 
-// What an event is answered; the clock and the sets after it.
+// What an event is answered; the clock, the sets and the favoured partition after it.
 pub struct Stepped {
     pub verdict: Verdict,
     pub clock: Clock,
     pub sets: Sets,
+    pub favoured: u16,
 }
 
-// All three steps: what was decided is the answer, and the thread chosen runs. Which partition is favoured is read before the event acts.
+// All three steps: what was decided is the answer, and the thread chosen runs. Favoured is the partition that the event found the processor working
+// for, whatever it does to the running thread; for the next event it is the one that is decided for.
 fn accept(
     settings: Settings,
     used: &mut [u32; 16],
@@ -42,18 +44,18 @@ fn accept(
     history: &mut [u32],
     c: Clock,
     sets: Sets,
+    favoured: u16,
     event: Event,
 ) -> Stepped
-    requires { ⌜ Whole settings (now used) c (columns (now exists) (now ready) (now partitions) (now priorities) (now masks) (now policies) (now slices)) (now queue) (now history) (now budgets) (now tops) (now firsts) sets × (refused (stateOf settings (now used) c (columns (now exists) (now ready) (now partitions) (now priorities) (now masks) (now policies) (now slices)) (now queue)) (now history) (bytesOf event) ≡ 0) × (event .stamp ≡ stampOf (bytesOf event)) ⌝ }
+    requires { ⌜ Whole settings (now used) c (columns (now exists) (now ready) (now partitions) (now priorities) (now masks) (now policies) (now slices)) (now queue) (now history) (now budgets) (now tops) (now firsts) sets favoured × (refused (stateOf settings (now used) c (columns (now exists) (now ready) (now partitions) (now priorities) (now masks) (now policies) (now slices)) (now queue)) (now history) (bytesOf event) ≡ 0) × (event .stamp ≡ stampOf (bytesOf event)) ⌝ }
     ensures { λ r. ⌜
         StepAnswered settings
         (saved (stateOf settings (now (used .entry)) c (columns (now (exists .entry)) (now (ready .entry)) (now (partitions .entry)) (now (priorities .entry)) (now (masks .entry)) (now (policies .entry)) (now (slices .entry))) (now (queue .entry))) (now (history .entry)))
         (bytesOf event)
         (r .verdict)
-        (now (used .exit)) (r .clock) (columns (now (exists .exit)) (now (ready .exit)) (now (partitions .exit)) (now (priorities .exit)) (now (masks .exit)) (now (policies .exit)) (now (slices .exit))) (now (queue .exit)) (now (history .exit)) (now (budgets .entry)) (now (tops .exit)) (now (firsts .exit)) (r .sets)
+        (now (used .exit)) (r .clock) (columns (now (exists .exit)) (now (ready .exit)) (now (partitions .exit)) (now (priorities .exit)) (now (masks .exit)) (now (policies .exit)) (now (slices .exit))) (now (queue .exit)) (now (history .exit)) (now (budgets .entry)) (now (tops .exit)) (now (firsts .exit)) (r .sets) (r .favoured)
         ⌝ }
 {
-    let favoured = kept::favoured_in(partitions, c.running);
     let d = apply::apply(
         settings,
         used,
@@ -75,6 +77,7 @@ fn accept(
     );
     let after = d.sets;
     let decision = kept::choose(settings, used, budgets, tops, firsts, after, favoured);
+    let next = kept::favoured_after(decision);
     let running = decision.thread as u32;
     let k = d.clock;
     let slot = k.slot;
@@ -90,17 +93,19 @@ fn accept(
         verdict: Verdict::Decided(decision),
         clock: clock,
         sets: after,
+        favoured: next,
     }
 }
 
 // The refusal; nothing changed.
-fn refuse(refusal: Refusal, clock: Clock, sets: Sets) -> Stepped
-    ensures { λ r. ⌜ r ≡ refusedBy refusal clock sets ⌝ }
+fn refuse(refusal: Refusal, clock: Clock, sets: Sets, favoured: u16) -> Stepped
+    ensures { λ r. ⌜ r ≡ refusedBy refusal clock sets favoured ⌝ }
 {
     Stepped {
         verdict: Verdict::Refused(refusal),
         clock: clock,
         sets: sets,
+        favoured: favoured,
     }
 }
 
@@ -122,15 +127,16 @@ pub fn step(
     history: &mut [u32],
     c: Clock,
     sets: Sets,
+    favoured: u16,
     event: &[u8],
 ) -> Stepped
-    requires { ⌜ Whole settings (now used) c (columns (now exists) (now ready) (now partitions) (now priorities) (now masks) (now policies) (now slices)) (now queue) (now history) (now budgets) (now tops) (now firsts) sets ⌝ }
+    requires { ⌜ Whole settings (now used) c (columns (now exists) (now ready) (now partitions) (now priorities) (now masks) (now policies) (now slices)) (now queue) (now history) (now budgets) (now tops) (now firsts) sets favoured ⌝ }
     ensures { λ r. ⌜
         StepAnswered settings
         (saved (stateOf settings (now (used .entry)) c (columns (now (exists .entry)) (now (ready .entry)) (now (partitions .entry)) (now (priorities .entry)) (now (masks .entry)) (now (policies .entry)) (now (slices .entry))) (now (queue .entry))) (now (history .entry)))
         (now (event .entry))
         (r .verdict)
-        (now (used .exit)) (r .clock) (columns (now (exists .exit)) (now (ready .exit)) (now (partitions .exit)) (now (priorities .exit)) (now (masks .exit)) (now (policies .exit)) (now (slices .exit))) (now (queue .exit)) (now (history .exit)) (now (budgets .entry)) (now (tops .exit)) (now (firsts .exit)) (r .sets)
+        (now (used .exit)) (r .clock) (columns (now (exists .exit)) (now (ready .exit)) (now (partitions .exit)) (now (priorities .exit)) (now (masks .exit)) (now (policies .exit)) (now (slices .exit))) (now (queue .exit)) (now (history .exit)) (now (budgets .entry)) (now (tops .exit)) (now (firsts .exit)) (r .sets) (r .favoured)
         × Still (saved (stateOf settings (now (used .entry)) c (columns (now (exists .entry)) (now (ready .entry)) (now (partitions .entry)) (now (priorities .entry)) (now (masks .entry)) (now (policies .entry)) (now (slices .entry))) (now (queue .entry))) (now (history .entry))) (now (event .entry)) (now (used .entry)) c (columns (now (exists .entry)) (now (ready .entry)) (now (partitions .entry)) (now (priorities .entry)) (now (masks .entry)) (now (policies .entry)) (now (slices .entry))) (now (queue .entry)) (now (history .entry)) (now (used .exit)) (r .clock) (columns (now (exists .exit)) (now (ready .exit)) (now (partitions .exit)) (now (priorities .exit)) (now (masks .exit)) (now (policies .exit)) (now (slices .exit))) (now (queue .exit)) (now (history .exit))
         ⌝ }
 {
@@ -138,7 +144,7 @@ pub fn step(
     let outcome = admission::refused_event(settings, exists, ready, c, decoded);
     let e = decoded.event;
     match outcome {
-        Outcome::Refused(refusal) => refuse(refusal, c, sets),
+        Outcome::Refused(refusal) => refuse(refusal, c, sets, favoured),
         Outcome::Accepted => accept(
             settings,
             used,
@@ -156,6 +162,7 @@ pub fn step(
             history,
             c,
             sets,
+            favoured,
             e,
         ),
     }

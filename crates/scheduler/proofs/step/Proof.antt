@@ -65,16 +65,16 @@ accept-requires c κs =
     let g = start t .pre in
     let f = c .before .before .before .before .before .before .before .before .before .before .before .before .enum-told .given .1 in
     let e = taken t f in
-    (g, taken-event (a .settings) (now (a .used)) (a .c) (threads t) (now (a .queue)) (now (a .history)) (now (a .budgets)) (now (a .tops)) (now (a .firsts)) (a .sets) g (bytesOf (decoded t .decode .result .event)) (t .refused-event .result) f (number t ∙ ap (refusedEvent (given t)) (e .0)), e .1 ∙ ap stampOf (e .0))
+    (g, taken-event (a .settings) (now (a .used)) (a .c) (threads t) (now (a .queue)) (now (a .history)) (now (a .budgets)) (now (a .tops)) (now (a .firsts)) (a .sets) (a .favoured) g (bytesOf (decoded t .decode .result .event)) (t .refused-event .result) f (number t ∙ ap (refusedEvent (given t)) (e .0)), e .1 ∙ ap stampOf (e .0))
 
 returns : tie.Need-returns
 returns c =
     let t = c .before .before .before .before .before in
     let a = start t .args in
     let g = start t .pre in (
-      subst (λ (z : Stepped). StepAnswered (a .settings) (saved (given t) (now (a .history))) (now (a .event)) (z .verdict) (now (a .used)) (z .clock) (threads t) (now (a .queue)) (now (a .history)) (now (a .budgets)) (now (a .tops)) (now (a .firsts)) (z .sets)) (sym (c .refuse .ensures))
-          (no-event (a .settings) (now (a .used)) (a .c) (threads t) (now (a .queue)) (now (a .history)) (now (a .budgets)) (now (a .tops)) (now (a .firsts)) (a .sets) g (now (a .event)) (t .refused-event .result) _ (c .before .before .outcome .given .1) (number t)),
-      λ _. same (a .settings) (now (a .used)) (a .c) (threads t) (now (a .queue)) (now (a .history)) (now (a .budgets)) (now (a .tops)) (now (a .firsts)) (a .sets) g _ (ap (λ (z : Stepped). z .clock) (c .refuse .ensures)),
+      subst (λ (z : Stepped). StepAnswered (a .settings) (saved (given t) (now (a .history))) (now (a .event)) (z .verdict) (now (a .used)) (z .clock) (threads t) (now (a .queue)) (now (a .history)) (now (a .budgets)) (now (a .tops)) (now (a .firsts)) (z .sets) (z .favoured)) (sym (c .refuse .ensures))
+          (no-event (a .settings) (now (a .used)) (a .c) (threads t) (now (a .queue)) (now (a .history)) (now (a .budgets)) (now (a .tops)) (now (a .firsts)) (a .sets) (a .favoured) g (now (a .event)) (t .refused-event .result) _ (c .before .before .outcome .given .1) (number t)),
+      λ _. same (a .settings) (now (a .used)) (a .c) (threads t) (now (a .queue)) (now (a .history)) (now (a .budgets)) (now (a .tops)) (now (a .firsts)) (a .sets) (a .favoured) g _ (ap (λ (z : Stepped). z .clock) (c .refuse .ensures)),
     )
 
 same-length : tie.Need-same-length
@@ -89,8 +89,8 @@ returns-2 c =
     let f = c .before .before .before .before .before .before .before .before .before .before .before .before .before .before .before .enum-told .given .1 in
     let e = taken t f in
     let b = bytesOf (decoded t .decode .result .event) in (
-      subst (λ (l : List ℕ). StepAnswered (a .settings) (saved (given t) (now (a .history))) l (d .result .verdict) (d .last .1 .0) (d .result .clock) (columns (d .last .1 .1 .0) (d .last .1 .1 .1 .0) (d .last .1 .1 .1 .1 .0) (d .last .1 .1 .1 .1 .1 .0) (d .last .1 .1 .1 .1 .1 .1 .0) (d .last .1 .1 .1 .1 .1 .1 .1 .0) (d .last .1 .1 .1 .1 .1 .1 .1 .1 .0)) (d .last .1 .1 .1 .1 .1 .1 .1 .1 .1 .0) (d .last .1 .1 .1 .1 .1 .1 .1 .1 .1 .1 .1 .1 .1 .0) (now (a .budgets)) (d .last .1 .1 .1 .1 .1 .1 .1 .1 .1 .1 .1 .0) (d .last .1 .1 .1 .1 .1 .1 .1 .1 .1 .1 .1 .1 .0) (d .result .sets)) (sym (e .0)) (d .ensures),
-      λ no. absurd (taken-still (a .settings) (now (a .used)) (a .c) (threads t) (now (a .queue)) (now (a .history)) (now (a .budgets)) (now (a .tops)) (now (a .firsts)) (a .sets) g (now (a .event)) b (e .0) (taken-event (a .settings) (now (a .used)) (a .c) (threads t) (now (a .queue)) (now (a .history)) (now (a .budgets)) (now (a .tops)) (now (a .firsts)) (a .sets) g b (t .refused-event .result) f (number t ∙ ap (refusedEvent (given t)) (e .0))) no),
+      subst (λ (l : List ℕ). StepAnswered (a .settings) (saved (given t) (now (a .history))) l (d .result .verdict) (d .last .1 .0) (d .result .clock) (columns (d .last .1 .1 .0) (d .last .1 .1 .1 .0) (d .last .1 .1 .1 .1 .0) (d .last .1 .1 .1 .1 .1 .0) (d .last .1 .1 .1 .1 .1 .1 .0) (d .last .1 .1 .1 .1 .1 .1 .1 .0) (d .last .1 .1 .1 .1 .1 .1 .1 .1 .0)) (d .last .1 .1 .1 .1 .1 .1 .1 .1 .1 .0) (d .last .1 .1 .1 .1 .1 .1 .1 .1 .1 .1 .1 .1 .1 .0) (now (a .budgets)) (d .last .1 .1 .1 .1 .1 .1 .1 .1 .1 .1 .1 .0) (d .last .1 .1 .1 .1 .1 .1 .1 .1 .1 .1 .1 .1 .0) (d .result .sets) (d .result .favoured)) (sym (e .0)) (d .ensures),
+      λ no. absurd (taken-still (a .settings) (now (a .used)) (a .c) (threads t) (now (a .queue)) (now (a .history)) (now (a .budgets)) (now (a .tops)) (now (a .firsts)) (a .sets) (a .favoured) g (now (a .event)) b (e .0) (taken-event (a .settings) (now (a .used)) (a .c) (threads t) (now (a .queue)) (now (a .history)) (now (a .budgets)) (now (a .tops)) (now (a .firsts)) (a .sets) (a .favoured) g b (t .refused-event .result) f (number t ∙ ap (refusedEvent (given t)) (e .0))) no),
     )
 
 pub step-spec : {M : Type 1} → statement M

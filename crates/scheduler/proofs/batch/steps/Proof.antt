@@ -17,15 +17,15 @@ use Rattle.scheduler.proofs.batch.steps.Statement.{statement}
 use Rattle.scheduler.proofs.batch.steps.Tie as tie
 
 abbrev Inv-loop : tie.InvT-loop
-Inv-loop settings used₀ exists₀ ready₀ partitions₀ priorities₀ masks₀ policies₀ slices₀ queue₀ budgets tops₀ firsts₀ history₀ events out₀ n t₀ kept₀ i₀ used exists ready partitions priorities masks policies slices queue tops firsts history out t kept i =
+Inv-loop settings used₀ exists₀ ready₀ partitions₀ priorities₀ masks₀ policies₀ slices₀ queue₀ budgets tops₀ firsts₀ history₀ favoured events out₀ n t₀ kept₀ ran₀ i₀ used exists ready partitions priorities masks policies slices queue tops firsts history out t kept ran i =
     let v = saved (stateOf settings used₀ t₀ (columns exists₀ ready₀ partitions₀ priorities₀ masks₀ policies₀ slices₀) queue₀) history₀ in
     (i ≤ n) × (length history ≡ length history₀) × (length out ≡ length out₀)
     × (saved (stateOf settings used t (columns exists ready partitions priorities masks policies slices) queue) history ≡ after v (eventsIn events i))
     × (out ≡ linesOf (run v (eventsIn events i)) ++ drop (12 * i) out₀)
-    × Whole settings used t (columns exists ready partitions priorities masks policies slices) queue history budgets tops firsts kept
+    × Whole settings used t (columns exists ready partitions priorities masks policies slices) queue history budgets tops firsts kept ran
 
 abbrev μ-loop : tie.MeasureT-loop
-μ-loop settings used₀ exists₀ ready₀ partitions₀ priorities₀ masks₀ policies₀ slices₀ queue₀ budgets tops₀ firsts₀ history₀ events out₀ n t₀ kept₀ i₀ used exists ready partitions priorities masks policies slices queue tops firsts history out t kept i =
+μ-loop settings used₀ exists₀ ready₀ partitions₀ priorities₀ masks₀ policies₀ slices₀ queue₀ budgets tops₀ firsts₀ history₀ favoured events out₀ n t₀ kept₀ ran₀ i₀ used exists ready partitions priorities masks policies slices queue tops firsts history out t kept ran i =
     n - i
 
 -- there is room for the line, and the record begins inside the events
@@ -44,10 +44,10 @@ loop-holds c =
     (omega arith, refl, refl, nothing-taken v e, nothing-written v e (now (a .out)), start .pre .0)
 
 mul-at : tie.Need-mul-at Inv-loop μ-loop
-mul-at c = omega (arith, room c, c .before .before .before .before .before .good .1 .1 .1 .1 .1 .1 .1 .1 .1 .1 .1 .1 .1 .1 .1 .1 .1 .0)
+mul-at c = omega (arith, room c, c .before .before .before .before .before .good .1 .1 .1 .1 .1 .1 .1 .1 .1 .1 .1 .1 .1 .1 .1 .1 .1 .1 .0)
 
 add-stop : tie.Need-add-stop Inv-loop μ-loop
-add-stop c = omega (arith, room c, c .before .before .before .before .before .good .1 .1 .1 .1 .1 .1 .1 .1 .1 .1 .1 .1 .1 .1 .1 .1 .1 .0)
+add-stop c = omega (arith, room c, c .before .before .before .before .before .good .1 .1 .1 .1 .1 .1 .1 .1 .1 .1 .1 .1 .1 .1 .1 .1 .1 .1 .0)
 
 least-requires : tie.Need-least-requires Inv-loop μ-loop
 least-requires c κs = search needs
@@ -77,7 +77,7 @@ write-requires : tie.Need-write-requires Inv-loop μ-loop
 write-requires c κs = simp (length-take, length-drop) (omega (arith, room (c .before .before .before .before .before .before .before .before .before .before .before .before .before .before .before .before .before .before), c .before .before .before .before .before .before .before .before .before .before .before .before .before .before .before .before .before .before .before .loop .inv .2))
 
 add-i : tie.Need-add-i Inv-loop μ-loop
-add-i c = omega (arith, room (c .before .before .before .before .before .before .before .before .before .before .before .before .before .before .before .before .before .before .before .before .before .before .before .before .before), c .before .before .before .before .before .before .before .before .before .before .before .before .before .before .before .before .before .before .before .before .before .before .before .before .before .before .before .before .before .before .good .1 .1 .1 .1 .1 .1 .1 .1 .1 .1 .1 .1 .1 .1 .1 .1 .1 .0)
+add-i c = omega (arith, room (c .before .before .before .before .before .before .before .before .before .before .before .before .before .before .before .before .before .before .before .before .before .before .before .before .before), c .before .before .before .before .before .before .before .before .before .before .before .before .before .before .before .before .before .before .before .before .before .before .before .before .before .before .before .before .before .before .good .1 .1 .1 .1 .1 .1 .1 .1 .1 .1 .1 .1 .1 .1 .1 .1 .1 .1 .0)
 
 loop-less : tie.Need-loop-less Inv-loop μ-loop
 loop-less c = omega (arith, c .before .before .before .before .before .before .before .before .before .before .before .before .before .before .before .before .before .before .before .before .before .before .before .before .before .loop-test .taken)
@@ -121,7 +121,7 @@ returns c =
     let w : c .before .loop .i ≡ a .n = omega (arith, c .loop-test .left, inv .0) in (
       inv .3 ∙ ap (λ (i : ℕ). after v (eventsIn e i)) w,
       inv .4 ∙ ap (λ (i : ℕ). linesOf (run v (eventsIn e i)) ++ drop (12 * i) (now (a .out))) w,
-      taken-arrays (a .settings) (turn .used) (turn .t) (columns (turn .exists) (turn .ready) (turn .partitions) (turn .priorities) (turn .masks) (turn .policies) (turn .slices)) (turn .queue) (turn .history) (now (a .budgets)) (turn .tops) (turn .firsts) (turn .kept) (inv .5),
+      taken-arrays (a .settings) (turn .used) (turn .t) (columns (turn .exists) (turn .ready) (turn .partitions) (turn .priorities) (turn .masks) (turn .policies) (turn .slices)) (turn .queue) (turn .history) (now (a .budgets)) (turn .tops) (turn .firsts) (turn .kept) (turn .ran) (inv .5),
     )
 
 pub steps-spec : {M : Type 1} → statement M
