@@ -22,7 +22,7 @@ use Rattle.accounts.specs.Kept.{Kept}
 use Rattle.decision.proofs.States.{partition-is, valid, led}
 use Rattle.accounts.proofs.States.{totals, weighed}
 use Rattle.decision.specs.Decides.{Favoured}
-use Rattle.decision.specs.Upkeep.{HeldBy, workedFor, Works}
+use Rattle.decision.specs.Upkeep.{HeldBy, worksFor, workedFor, Works}
 use Rattle.decision.specs.declared.kept.Sets.{Sets}
 
 pub kept : (c : Settings) (u : List ℕ) (k : Clock) (ts : Columns) (q h budgets tops firsts : List ℕ) (sets : Sets) → Regular ts
@@ -38,18 +38,14 @@ kept c u k ts q h budgets tops firsts sets sized settled held = record {
 
 -- ---- the favoured partition
 
--- the partition f of a thread, or none where the thread's number is that of none
-module _ (thread f : ℕ) where
-  abbrev partitionOf : Option ℕ
-  partitionOf = cond (eqb thread idle) none (some f)
-
-  pub favours-none : thread ≡ idle → Favoured partitionOf 0
+module _ (running f : ℕ) where
+  pub favours-none : running ≡ idle → Favoured (worksFor running f) 0
   unfolding favours
-  favours-none e = λ p b. rw (eq-eqb thread idle e) (bits.none p)
+  favours-none e = λ p b. rw (eq-eqb running idle e) (bits.none p)
 
-  pub favours-one : thread ≢ idle → (set : ℕ) → Only 16 f set → Favoured partitionOf set
+  pub favours-one : running ≢ idle → (set : ℕ) → Only 16 f set → Favoured (worksFor running f) set
   unfolding favours
-  favours-one n set only = λ p b. rw (ne-eqb thread idle n) (only p b)
+  favours-one n set only = λ p b. rw (ne-eqb running idle n) (only p b)
 
 module _ (c : Settings) (u : List ℕ) (k : Clock) (ts : Columns) (q : List ℕ) (sized : Regular ts) where
   -- the partition that the running thread works for is the state's favoured one

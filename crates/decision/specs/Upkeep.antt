@@ -32,13 +32,12 @@ pub record Held (c : Settings) (totals partitions priorities masks line budgets 
 abbrev pub HeldBy : Settings → List ℕ → Clock → Columns → List ℕ → List ℕ → List ℕ → List ℕ → Sets → Type 0
 HeldBy c u k ts q budgets tops firsts sets = Held c u (ts .partitions) (ts .priorities) (ts .masks) (take (k .queued) q) budgets tops firsts sets
 
--- the partition that the running thread works for; none while idle
-abbrev pub workedFor : List ℕ → ℕ → Option ℕ
-workedFor partitions running = cond (eqb running idle) none (some (getD partitions running 0))
+-- the partition p of the running thread; none while idle
+abbrev pub worksFor : ℕ → ℕ → Option ℕ
+worksFor running p = cond (eqb running idle) none (some p)
 
--- the partition that the decision's thread works for
-abbrev pub decidedFor : Decision → Option ℕ
-decidedFor d = cond (eqb (d .thread) idle) none (some (d .partition))
+abbrev pub workedFor : List ℕ → ℕ → Option ℕ
+workedFor partitions running = worksFor running (getD partitions running 0)
 
 -- the running thread is a thread's number, and its partition a partition's; or nothing runs
 abbrev pub Works : List ℕ → ℕ → Type 0

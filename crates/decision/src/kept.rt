@@ -6,7 +6,7 @@ ghost use Prim.Native.Nat.{_<_};
 ghost use Rattle.decision.specs.Keeping.{KeptIn, Lined};
 ghost use Rattle.decision.specs.Follow.{Followed, FollowedPriority, FollowedTurn};
 ghost use Rattle.decision.specs.Decides.{Favoured};
-ghost use Rattle.decision.specs.Upkeep.{Held, workedFor, decidedFor, Works, DecidesKept};
+ghost use Rattle.decision.specs.Upkeep.{Held, worksFor, workedFor, Works, DecidesKept};
 use crate::leads;
 use accounts::IDLE;
 use accounts::solvency;
@@ -71,15 +71,15 @@ pub fn favoured_in(partitions: &[u8; 64], running: u32) -> u16
     sets::only(partitions[running as usize])
 }
 
-// The same of the thread that was decided for, which runs until the next event: its partition is the one that the decision names.
-pub fn favoured_after(d: Decision) -> u16
-    requires { ⌜ (d .thread ≢ 255 → d .partition < 16) ⌝ }
-    ensures { λ r. ⌜ Favoured (decidedFor d) r ⌝ }
+// The same of a running thread whose partition is known: that of a decision, which runs until the next event.
+pub fn favoured_after(partition: u8, running: u32) -> u16
+    requires { ⌜ (running ≢ 255 → partition < 16) ⌝ }
+    ensures { λ r. ⌜ Favoured (worksFor running partition) r ⌝ }
 {
-    if d.thread == 255 {
+    if running == IDLE {
         return 0;
     }
-    sets::only(d.partition)
+    sets::only(partition)
 }
 
 // The decision, with the set of the favoured partition.

@@ -35,7 +35,7 @@ use Rattle.accounts.proofs.ChargingLaws.{map-length}
 use Rattle.event.specs.Bytes.{bytesOf}
 use Rattle.event.specs.declared.Event.{Event}
 use Rattle.decision.specs.Decides.{Favoured}
-use Rattle.decision.specs.Upkeep.{HeldBy, workedFor, decidedFor, DecidesKept}
+use Rattle.decision.specs.Upkeep.{HeldBy, worksFor, workedFor, DecidesKept}
 use Rattle.decision.proofs.States.{partition-is}
 use Rattle.decision.proofs.UpkeepLaws as Upkeep
 use Rattle.decision.specs.declared.kept.Sets.{Sets}
@@ -164,14 +164,14 @@ module _ (c : Settings) (u : List ℕ) (k : Clock) (ts : Columns) (q h budgets t
       pub decided-inside : d .thread ≢ idle → d .partition < 16
       decided-inside n = works-for n .1
 
-      favours-next : workedFor (ts′ .partitions) (d .thread) ≡ decidedFor d
+      favours-next : workedFor (ts′ .partitions) (d .thread) ≡ worksFor (d .thread) (d .partition)
       favours-next = go (eqb (d .thread) idle) refl
         where
           go : (z : Bool) → eqb (d .thread) idle ≡ z → cond z none (some (getD (ts′ .partitions) (d .thread) 0)) ≡ cond z none (some (d .partition))
           go true e = refl
           go false e = ap some (works-for (eqb-false (d .thread) idle e) .0)
 
-      pub decided : (next : ℕ) → Favoured (decidedFor d) next
+      pub decided : (next : ℕ) → Favoured (worksFor (d .thread) (d .partition)) next
           → StepAnswered c v (bytesOf x) (verdict.Decided d) u′ (record { stamp = k′ .stamp; slot = k′ .slot; since = k′ .since; queued = k′ .queued; running = d .thread })
           ts′ q′ h′ budgets tops′ firsts′ sets′ next
       decided next f =

@@ -77,8 +77,8 @@ fn accept(
     );
     let after = d.sets;
     let decision = kept::choose(settings, used, budgets, tops, firsts, after, favoured);
-    let next = kept::favoured_after(decision);
     let running = decision.thread as u32;
+    let next = kept::favoured_after(decision.partition, running);
     let k = d.clock;
     let slot = k.slot;
     let since = k.since;
