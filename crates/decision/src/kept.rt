@@ -65,10 +65,10 @@ pub fn favoured_in(partitions: &[u8; 64], running: u32) -> u16
     requires { ⌜ Works (now partitions) running ⌝ }
     ensures { λ r. ⌜ Favoured (workedFor (now (partitions .entry)) running) r ⌝ }
 {
-    if running == IDLE {
-        return 0;
+    if running != IDLE {
+        return sets::only(partitions[running as usize]);
     }
-    sets::only(partitions[running as usize])
+    0
 }
 
 // The same of a running thread whose partition is known: that of a decision, which runs until the next event.
