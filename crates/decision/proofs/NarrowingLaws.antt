@@ -1,19 +1,18 @@
 -- A set is narrowed by one pass over it, in the order of its numbers; two comparisons one after the other narrow it as one does that has both.
 use mathlib.Core.Logic.{_≢_, _⊎_, inl, inr}
 use mathlib.Core.Path.{_≡_, refl, sym, ap, ap₂, subst, _∙_}
-use Prim.Native.Nat.{ℕ, _≤_, _<_}
+use Prim.Native.Nat.{ℕ, _<_}
 use mathlib.Core.Bool.{Bool, true, false, not, _&&_, _||_}
 use mathlib.Core.List.{List}
 use lib.ListN.{getD}
 use lib.Dec.{eqb}
-use native.Mathlib.Omega.{arith}
 use native.Mathlib.Decide.{ℕ-discrete}
-use borrow.Author.Tests.{eq-eqb, ne-eqb, eqb-true, lt-ltb, le-ltb}
+use borrow.Author.Tests.{eq-eqb, ne-eqb, eqb-true}
 use Rattle.lists.proofs.Tests.{clash, both}
 use Rattle.sets.specs.Bits.{inSet, Put, TakenOut, Only, Lowest}
 use lib.Bits.{bitAnd}
 use Rattle.sets.proofs.Laws.{none, and-set}
-use Rattle.units.specs.Units.{compareNumbers, compareFlags}
+use Rattle.units.specs.Units.{compareFlags}
 use Rattle.units.specs.declared.Comparison.{Comparison}
 use Rattle.units.specs.declared.Comparison.the-variants.{Better, Worse, Equal}
 use Rattle.model.specs.Policy.{_then_}
@@ -225,20 +224,6 @@ module _ (R : ℕ → ℕ → Comparison) (o : Ordered R) where
     where
       out : (i : ℕ) → inSet left i ≡ false
       out i = ap (λ (k : ℕ). inSet k i) z ∙ none i
-
--- two numbers, of which the larger is better
-module _ (a b : ℕ) where
-  pub number-better : b < a → compareNumbers a b ≡ Better
-  unfolding compareNumbers
-  number-better h = rw (lt-ltb b a h)
-
-  pub number-worse : a < b → compareNumbers a b ≡ Worse
-  unfolding compareNumbers
-  number-worse h = rw (le-ltb b a (omega arith), lt-ltb a b h)
-
-  pub number-equal : a ≤ b → b ≤ a → compareNumbers a b ≡ Equal
-  unfolding compareNumbers
-  number-equal h k = rw (le-ltb b a h, le-ltb a b k)
 
 module _ (A : Type 0) (c : Comparison) (old new : A) (kept p : ℕ) (value : A) (set : ℕ) where
   pub moved-ahead : c ≡ Better → value ≡ new → Only 16 p set → OneMore A c old new kept p value set

@@ -1,6 +1,7 @@
-use borrow.Author.Tests.{eq-eqb, ne-eqb, lt-ltb, le-ltb}
-use Rattle.units.specs.Units.{compareNumbers, compareFractions}
-use Rattle.units.proofs.Laws.{product-fits}
+use mathlib.Core.Path.{sym}
+use borrow.Author.Tests.{eq-eqb, ne-eqb}
+use Rattle.units.specs.Units.{compareFractions}
+use Rattle.units.proofs.Laws.{product-fits, number-better, number-worse, number-equal}
 use borrow.Author.Needs.{needs}
 use Rattle.units.proofs.compare_fractions.Statement.{statement}
 use Rattle.units.proofs.compare_fractions.Tie as tie
@@ -36,22 +37,22 @@ mul-right : tie.Need-mul-right
 mul-right c = record { fits = product-fits 32 (search needs) (search needs) }
 
 returns-4 : tie.Need-returns-4
-unfolding compareFractions compareNumbers
+unfolding compareFractions
 returns-4 c =
     let second = c .before .before .before .before .before in
-    rw (ne-eqb _ _ (second .before .before .if1 .left), ne-eqb _ _ (second .if3 .left), lt-ltb _ _ (c .if4 .taken))
+    rw (ne-eqb _ _ (second .before .before .if1 .left), ne-eqb _ _ (second .if3 .left)) (sym (number-better _ _ (c .if4 .taken)))
 
 returns-5 : tie.Need-returns-5
-unfolding compareFractions compareNumbers
+unfolding compareFractions
 returns-5 c =
     let second = c .before .before .before .before .before .before in
-    rw (ne-eqb _ _ (second .before .before .if1 .left), ne-eqb _ _ (second .if3 .left), le-ltb _ _ (c .before .if4 .left), lt-ltb _ _ (c .if5 .taken))
+    rw (ne-eqb _ _ (second .before .before .if1 .left), ne-eqb _ _ (second .if3 .left)) (sym (number-worse _ _ (c .if5 .taken)))
 
 returns-6 : tie.Need-returns-6
-unfolding compareFractions compareNumbers
+unfolding compareFractions
 returns-6 c =
     let second = c .before .before .before .before .before .before in
-    rw (ne-eqb _ _ (second .before .before .if1 .left), ne-eqb _ _ (second .if3 .left), le-ltb _ _ (c .before .if4 .left), le-ltb _ _ (c .if5 .left))
+    rw (ne-eqb _ _ (second .before .before .if1 .left), ne-eqb _ _ (second .if3 .left)) (sym (number-equal _ _ (c .before .if4 .left) (c .if5 .left)))
 
 pub compare-fractions-spec : {M : Type 1} → statement M
 compare-fractions-spec =

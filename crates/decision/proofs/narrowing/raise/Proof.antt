@@ -1,6 +1,7 @@
 use mathlib.Core.Path.{refl}
 use Prim.Native.Nat.{ℕ}
-use Rattle.decision.proofs.NarrowingLaws.{number-better, number-worse, number-equal, moved-ahead, moved-behind, moved-level}
+use Rattle.units.proofs.Laws.{number-better, number-worse, number-equal}
+use Rattle.decision.proofs.NarrowingLaws.{moved-ahead, moved-behind, moved-level}
 use borrow.Author.Needs.{needs}
 use Rattle.decision.proofs.narrowing.raise.Statement.{statement}
 use Rattle.decision.proofs.narrowing.raise.Tie as tie
