@@ -15,7 +15,7 @@ use Rattle.model.specs.Step.{Saved, saved}
 use Rattle.model.specs.declared.Clock.{Clock}
 
 pub record Lent : Type 0 where
-  -- W, C, P, M and the count; the shares
+  -- W, C, P, M, E, whether E is stated, and the count; the shares
   pub settings : List ℕ
   pub shares : List ℕ
   pub used : List ℕ
@@ -40,7 +40,9 @@ settingsFrom a b =
       tick = record { 0 = getD a 1 0 };
       policy = getD a 2 0;
       core = getD a 3 0;
-      count = getD a 4 0;
+      edition = getD a 4 0;
+      stated = getD a 5 0;
+      count = getD a 6 0;
       shares = sharesFrom b;
     }
 

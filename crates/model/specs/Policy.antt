@@ -9,7 +9,7 @@ use Rattle.lists.specs.Lists.{below, any, keep, first, maximum}
 use Rattle.units.specs.Units.{remainingOf, hasBudgetOf, compareNumbers, compareFlags, compareFractions}
 use Rattle.units.specs.declared.Comparison.{Comparison}
 use Rattle.units.specs.declared.Comparison.the-variants.{Better, Worse, Equal}
-use Rattle.sheet.specs.Settings.{C, budget}
+use Rattle.sheet.specs.Settings.{budget, need}
 use Rattle.model.specs.State.{thread, queueOf, mayRun, idle, used, State}
 
 -- a decision in the paper's numbers
@@ -36,9 +36,9 @@ topPriority s p = maximum (map (λ t. thread s t .priority) (candidates s p))
 unfoldable pub remaining : State → ℕ → ℤ
 remaining s p = remainingOf (budget (s .settings) p) (used s p)
 
--- "Has budget: remaining is at least C / 4"
+-- "Has budget: remaining is at least C / 4", or, in edition 2, "at least half a tick"
 unfoldable pub hasBudget : State → ℕ → Bool
-hasBudget s p = hasBudgetOf (remaining s p) (C (s .settings))
+hasBudget s p = hasBudgetOf (remaining s p) (need (s .settings))
 
 -- ---- the mode
 

@@ -18,6 +18,8 @@ pub record SettingsTyped (c : Settings) : Type 0 where
   pub tick : C c < 2 ^ 32
   pub policy : c .policy < 2 ^ 32
   pub core : c .core < 2 ^ 32
+  pub edition : c .edition < 2 ^ 32
+  pub stated : c .stated < 2 ^ 32
   pub count : c .count < 2 ^ 32
   pub shares : (p : ℕ) → share c p < 2 ^ 32
 

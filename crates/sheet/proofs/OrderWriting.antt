@@ -11,29 +11,29 @@ use Rattle.sheet.specs.Records.{recordOf}
 use Rattle.sheet.proofs.RecordsLaws.{record-length}
 use Rattle.sheet.specs.Order.{letterAt, numberAt, recordsOf}
 
-pub records-length : (value : ℕ → ℕ) (n : ℕ) → length (recordsOf value n) ≡ 12 * n
+pub records-length : (head : ℕ) (value : ℕ → ℕ) (n : ℕ) → length (recordsOf head value n) ≡ 12 * n
 unfolding recordsOf
-records-length value zero = refl
-records-length value (suc n) =
-    length-append (recordsOf value n) (recordOf (letterAt n) (numberAt n) (value n))
-    ∙ rw (records-length value n, record-length (letterAt n) (numberAt n) (value n)) (omega arith)
+records-length head value zero = refl
+records-length head value (suc n) =
+    length-append (recordsOf head value n) (recordOf (letterAt head n) (numberAt head n) (value n))
+    ∙ rw (records-length head value n, record-length (letterAt head n) (numberAt head n) (value n)) (omega arith)
 
 -- the same values make the same records
-pub records-same : (f g : ℕ → ℕ) (n : ℕ) → ((i : ℕ) → i < n → f i ≡ g i) → recordsOf f n ≡ recordsOf g n
+pub records-same : (head : ℕ) (f g : ℕ → ℕ) (n : ℕ) → ((i : ℕ) → i < n → f i ≡ g i) → recordsOf head f n ≡ recordsOf head g n
 unfolding recordsOf
-records-same f g zero e = refl
-records-same f g (suc n) e =
+records-same head f g zero e = refl
+records-same head f g (suc n) e =
     let last : f n ≡ g n = e n (omega arith) in
-    ap₂ (λ (l : List ℕ) (v : ℕ). l ++ recordOf (letterAt n) (numberAt n) v) (records-same f g n (λ i h. e i (omega arith))) last
+    ap₂ (λ (l : List ℕ) (v : ℕ). l ++ recordOf (letterAt head n) (numberAt head n) v) (records-same head f g n (λ i h. e i (omega arith))) last
 
 -- one more record in its part of the buffer
-pub written-more : (value : ℕ → ℕ) (buffer : List ℕ) (i : ℕ) {letter number : ℕ} {part : List ℕ}
-    → letter ≡ letterAt i → number ≡ numberAt i → part ≡ recordOf letter number (value i)
-    → putMid (12 * i) (12 * i + 12 - 12 * i) (recordsOf value i ++ drop (12 * i) buffer) part
-    ≡ recordsOf value (i + 1) ++ drop (12 * (i + 1)) buffer
+pub written-more : (head : ℕ) (value : ℕ → ℕ) (buffer : List ℕ) (i : ℕ) {letter number : ℕ} {part : List ℕ}
+    → letter ≡ letterAt head i → number ≡ numberAt head i → part ≡ recordOf letter number (value i)
+    → putMid (12 * i) (12 * i + 12 - 12 * i) (recordsOf head value i ++ drop (12 * i) buffer) part
+    ≡ recordsOf head value (i + 1) ++ drop (12 * (i + 1)) buffer
 unfolding recordsOf
-written-more value buffer i a b e =
-    let size : length (recordsOf value i) ≡ 12 * i = records-length value i in
+written-more head value buffer i a b e =
+    let size : length (recordsOf head value i) ≡ 12 * i = records-length head value i in
     let twelve : 12 * i + 12 - 12 * i ≡ 12 = omega arith in
     let next : 12 * (i + 1) ≡ 12 * i + 12 = omega arith in
     rw (
@@ -44,7 +44,7 @@ written-more value buffer i a b e =
       next,
       add-one,
       append-assoc,
-      take-at (recordsOf value i) (drop (12 * i) buffer) (12 * i) size,
-      drop-at (recordsOf value i) (drop (12 * i) buffer) (12 * i) size,
+      take-at (recordsOf head value i) (drop (12 * i) buffer) (12 * i) size,
+      drop-at (recordsOf head value i) (drop (12 * i) buffer) (12 * i) size,
       drop-drop 12 (12 * i) buffer,
     )

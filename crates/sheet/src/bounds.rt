@@ -3,7 +3,7 @@ ghost use mathlib.Core.Path.{_≡_};
 ghost use Prim.Native.Nat.{_<_, _≤_};
 ghost use Rattle.lists.specs.Lists.{total};
 ghost use Rattle.refusals.specs.Refusals.{outcomeOf};
-ghost use Rattle.sheet.specs.Limits.{percentAt, countFits, windowFits, tickFits, policyAndCoreFit, refusedNumbers};
+ghost use Rattle.sheet.specs.Limits.{percentAt, countFits, windowFits, tickFits, policyAndCoreFit, editionFits, refusedNumbers};
 use refusals::Outcome;
 use refusals::Refusal;
 use units::Cycles;
@@ -38,6 +38,13 @@ fn policy_and_core_fit(policy: u32, core: u32) -> bool
     (policy <= 1) & (core <= 7)
 }
 
+// "1 for the quarter and 2 for the half. Where no E is stated, only 1 is within limits": `stated` is 1 where it is stated, 0 where it is not.
+fn edition_fits(edition: u32, stated: u32) -> bool
+    ensures { λ r. ⌜ r ≡ editionFits edition stated ⌝ }
+{
+    (1 <= edition) & (edition <= 2) & (stated <= 1) & ((edition == 1) | (stated == 1))
+}
+
 // The first limit that the numbers of a sheet break. They are tested as they were read. The sum of the shares is no percent of its own: it may
 // need 64 bits.
 pub fn limits_of(
@@ -46,9 +53,11 @@ pub fn limits_of(
     tick: Cycles,
     policy: u32,
     core: u32,
+    edition: u32,
+    stated: u32,
     sum: u64,
 ) -> Outcome
-    ensures { λ r. ⌜ outcomeOf r ≡ refusedNumbers count (window .0) (tick .0) policy core sum ⌝ }
+    ensures { λ r. ⌜ outcomeOf r ≡ refusedNumbers count (window .0) (tick .0) policy core edition stated sum ⌝ }
 {
     if !count_fits(count) {
         return Outcome::Refused(Refusal::Count);
@@ -60,7 +69,10 @@ pub fn limits_of(
         return Outcome::Refused(Refusal::Tick);
     }
     if !policy_and_core_fit(policy, core) {
-        return Outcome::Refused(Refusal::PolicyOrCore);
+        return Outcome::Refused(Refusal::PolicyCoreOrEdition);
+    }
+    if !edition_fits(edition, stated) {
+        return Outcome::Refused(Refusal::PolicyCoreOrEdition);
     }
     if sum != 100 {
         return Outcome::Refused(Refusal::Shares);

@@ -3,7 +3,7 @@ use Prim.Native.Nat.{ℕ, suc, _+_, _-_, _*_, _/_, _%_, _^_, _≤_, _<_}
 use mathlib.Core.Path.{_≡_}
 use lib.Dec.{leb}
 use lib.IntN.{pos, negsuc}
-use Rattle.units.specs.Units.{budgetOf, elapsedOf, remainingOf, hasBudgetOf}
+use Rattle.units.specs.Units.{budgetOf, elapsedOf, remainingOf, needOf, hasBudgetOf}
 
 -- elapsed against the true counter: of two readings of one that does not wrap, less than a round of 32 bits apart, it is the true distance
 abbrev pub ElapsedIsTrue : Type 0
@@ -33,6 +33,10 @@ pub record RemainingExact : Type 0 where
 abbrev pub RemainingIsExact : Type 0
 RemainingIsExact = RemainingExact
 
--- "Has budget: remaining is at least C / 4", without signed numbers
+-- "Has budget: remaining is at least" the cycles that must remain, without signed numbers
 abbrev pub HasBudget : Type 0
-HasBudget = (budget used tick : ℕ) → hasBudgetOf (remainingOf budget used) tick ≡ leb (used + tick / 4) budget
+HasBudget = (budget used need : ℕ) → hasBudgetOf (remainingOf budget used) need ≡ leb (used + need) budget
+
+-- "Newer ones need a quarter", older ones "half a tick": of a tick that is a multiple of 100, nothing is lost by either division
+abbrev pub NeedsAreWhole : Type 0
+NeedsAreWhole = (tick : ℕ) → tick % 100 ≡ 0 → (4 * needOf 1 tick ≡ tick) × (2 * needOf 2 tick ≡ tick)

@@ -60,14 +60,16 @@ returns-4 c =
       c .if4 .taken,
     )
 
+edition-fits-requires : tie.Need-edition-fits-requires
+edition-fits-requires c κs = search needs
+
 returns-5 : tie.Need-returns-5
 unfolding refusedNumbers
 returns-5 c =
-    let policy = c .before in
+    let policy = c .before .before in
     let tick = policy .before .before in
     let window = tick .before .before in
     let count = window .before .before in
-    let whole : eqb (count .before .before .args .sum) 100 ≡ false = ne-eqb _ _ (c .if5 .taken) in
     rw (
       ← count .before .count-fits .ensures,
       count .if1 .left,
@@ -77,17 +79,19 @@ returns-5 c =
       tick .if3 .left,
       ← policy .before .policy-and-core-fit .ensures,
       policy .if4 .left,
-      whole,
+      ← c .before .edition-fits .ensures,
+      c .if5 .taken,
     )
 
 returns-6 : tie.Need-returns-6
 unfolding refusedNumbers
 returns-6 c =
-    let policy = c .before in
+    let edition = c .before in
+    let policy = edition .before .before in
     let tick = policy .before .before in
     let window = tick .before .before in
     let count = window .before .before in
-    let whole : eqb (count .before .before .args .sum) 100 ≡ true = eq-eqb _ _ (c .if5 .left) in
+    let whole : eqb (count .before .before .args .sum) 100 ≡ false = ne-eqb _ _ (c .if6 .taken) in
     rw (
       ← count .before .count-fits .ensures,
       count .if1 .left,
@@ -97,6 +101,31 @@ returns-6 c =
       tick .if3 .left,
       ← policy .before .policy-and-core-fit .ensures,
       policy .if4 .left,
+      ← edition .before .edition-fits .ensures,
+      edition .if5 .left,
+      whole,
+    )
+
+returns-7 : tie.Need-returns-7
+unfolding refusedNumbers
+returns-7 c =
+    let edition = c .before in
+    let policy = edition .before .before in
+    let tick = policy .before .before in
+    let window = tick .before .before in
+    let count = window .before .before in
+    let whole : eqb (count .before .before .args .sum) 100 ≡ true = eq-eqb _ _ (c .if6 .left) in
+    rw (
+      ← count .before .count-fits .ensures,
+      count .if1 .left,
+      ← window .before .window-fits .ensures,
+      window .if2 .left,
+      ← tick .before .tick-fits .ensures,
+      tick .if3 .left,
+      ← policy .before .policy-and-core-fit .ensures,
+      policy .if4 .left,
+      ← edition .before .edition-fits .ensures,
+      edition .if5 .left,
       whole,
     )
 
@@ -112,5 +141,7 @@ limits-of-spec =
     returns-3
     policy-and-core-fit-requires
     returns-4
+    edition-fits-requires
     returns-5
-    returns-6)
+    returns-6
+    returns-7)

@@ -12,16 +12,19 @@ use Rattle.lists.proofs.Tables.{table-more}
 use Rattle.lists.proofs.Loops.{all-next}
 use Rattle.sheet.specs.Records.{accepted, saidBy}
 use Rattle.sheet.specs.Order.{recordCount, fieldAt, valueAt, recordsFormed}
-use Rattle.sheet.proofs.OrderReading.{whole-of, field-is, value-is, formed-not, values-are}
+use Rattle.sheet.proofs.OrderReading.{whole-of, count-high, field-is, value-is, formed-not, values-are}
 use Rattle.sheet.proofs.order.read_values.Statement.{statement}
 use Rattle.sheet.proofs.order.read_values.Tie as tie
 
 abbrev Inv-loop : tie.InvT-loop
-Inv-loop bytes count values₀ i₀ values i =
-    (i ≤ count) × (all (λ j. accepted (fieldAt bytes j)) (below i) ≡ true) × (values ≡ map (valueAt bytes) (below i) ++ replicate (20 - i) 0)
+Inv-loop bytes head count values₀ i₀ values i =
+    (i ≤ count) × (all (λ j. accepted (fieldAt bytes j)) (below i) ≡ true) × (values ≡ map (valueAt bytes) (below i) ++ replicate (21 - i) 0)
 
 abbrev μ-loop : tie.MeasureT-loop
-μ-loop bytes count values₀ i₀ values i = count - i
+μ-loop bytes head count values₀ i₀ values i = count - i
+
+head-of-requires : tie.Need-head-of-requires Inv-loop μ-loop
+head-of-requires c κs = search needs
 
 loop-holds : tie.Need-loop-holds Inv-loop μ-loop
 unfolding all below
@@ -46,8 +49,10 @@ letter-at-requires : tie.Need-letter-at-requires Inv-loop μ-loop
 letter-at-requires c κs = search needs
 
 number-at-requires : tie.Need-number-at-requires Inv-loop μ-loop
-number-at-requires c κs = omega
-    (arith, whole-of (now (c .before .before .before .before .before .args .bytes)) (c .before .before .before .before .before .pre) .high)
+number-at-requires c κs =
+    let start = c .before .before .before .before .before .before in
+    let bs = now (start .args .bytes) in
+    omega (arith, count-high bs (whole-of bs (start .pre)))
 
 read-record-requires : tie.Need-read-record-requires Inv-loop μ-loop
 read-record-requires c κs = search needs
@@ -60,11 +65,12 @@ enum-told c = search needs
 
 returns : tie.Need-returns Inv-loop μ-loop
 returns c =
-    let bs = now (c .before .before .before .before .before .before .before .before .before .args .bytes) in
-    let i = c .before .before .before .before .before .before .before .loop .i in
+    let turn = c .before .before .before .before .before .before .before in
+    let bs = now (turn .before .before .before .args .bytes) in
+    let i = turn .loop .i in
     let field : fieldAt bs i ≡ saidBy (c .before .before .read-record .result) =
-    field-is bs i (c .before .before .before .before .letter-at .ensures) (c .before .before .before .number-at .ensures)
-    (c .before .before .read-record .ensures) in
+    field-is bs i (turn .before .head-of .result) (turn .before .head-of .ensures) (c .before .before .before .before .letter-at .ensures)
+    (c .before .before .before .number-at .ensures) (c .before .before .read-record .ensures) in
     rw (formed-not bs i (c .before .before .before .before .before .before .loop-test .taken) (field ∙ ap saidBy (c .enum-told .given .1)))
     (refl, refl)
 
@@ -72,11 +78,10 @@ mul-values : tie.Need-mul-values Inv-loop μ-loop
 mul-values c = search needs
 
 array-write-values : tie.Need-array-write-values Inv-loop μ-loop
-array-write-values c = omega (
-  arith,
-  whole-of (now (c .before .before .before .before .before .before .before .before .before .before .args .bytes))
-      (c .before .before .before .before .before .before .before .before .before .before .pre) .high,
-)
+array-write-values c =
+    let start = c .before .before .before .before .before .before .before .before .before .before .before in
+    let bs = now (start .args .bytes) in
+    omega (arith, count-high bs (whole-of bs (start .pre)))
 
 add-i : tie.Need-add-i Inv-loop μ-loop
 add-i c = search needs
@@ -86,27 +91,29 @@ loop-less c = search needs
 
 loop-again : tie.Need-loop-again Inv-loop μ-loop
 loop-again c =
-    let bs = now (c .before .before .before .before .before .before .before .before .before .before .args .bytes) in
-    let turn = c .before .before .before .before .before .before .before .before .loop in
+    let past = c .before .before .before .before .before .before .before .before in
+    let start = past .before .before .before in
+    let bs = now (start .args .bytes) in
+    let turn = past .loop in
     let field : fieldAt bs (turn .i) ≡ saidBy (c .before .before .before .read-record .result) =
-    field-is bs (turn .i) (c .before .before .before .before .before .letter-at .ensures)
+    field-is bs (turn .i) (past .before .head-of .result) (past .before .head-of .ensures) (c .before .before .before .before .before .letter-at .ensures)
     (c .before .before .before .before .number-at .ensures) (c .before .before .before .read-record .ensures) in
     let value = value-is bs (turn .i) (c .before .value .given .0 .0) (field ∙ ap saidBy (c .before .value .given .1)) in
-    let room : turn .i < 20 = omega
-    (arith, whole-of bs (c .before .before .before .before .before .before .before .before .before .before .pre) .high) in (
+    let room : turn .i < 21 = omega (arith, count-high bs (whole-of bs (start .pre))) in (
       omega arith,
       sym (all-next (λ j. accepted (fieldAt bs j)) (turn .i)) ∙ and (turn .inv .1) (value .1),
-      rw (turn .inv .2, ← value .0) (table-more (valueAt bs) 0 20 (turn .i) room),
+      rw (turn .inv .2, ← value .0) (table-more (valueAt bs) 0 21 (turn .i) room),
     )
 
 returns-2 : tie.Need-returns-2 Inv-loop μ-loop
 unfolding recordsFormed
 returns-2 c =
-    let bs = now (c .before .before .before .args .bytes) in
+    let start = c .before .before .before .before in
+    let bs = now (start .args .bytes) in
     let turn = c .before .loop in
     let last : turn .i ≡ recordCount bs = omega arith in
     let formed : recordsFormed bs ≡ true = rw (← last) (turn .inv .1) in
-    rw formed (refl, turn .inv .2 ∙ rw last (values-are bs (whole-of bs (c .before .before .before .pre))))
+    rw formed (refl, turn .inv .2 ∙ rw last (values-are bs (whole-of bs (start .pre))))
 
 pub read-values-spec : {M : Type 1} → statement M
 read-values-spec =
@@ -114,6 +121,7 @@ read-values-spec =
     (tie.spec
     Inv-loop
     μ-loop
+    head-of-requires
     loop-holds
     mul-at
     add-end

@@ -11,11 +11,11 @@ use Rattle.sheet.proofs.order.write_records.Statement.{statement}
 use Rattle.sheet.proofs.order.write_records.Tie as tie
 
 abbrev Inv-loop : tie.InvT-loop
-Inv-loop n buffer₀ values i₀ buffer i =
-    (i ≤ n) × (length buffer ≡ length buffer₀) × (buffer ≡ recordsOf (λ j. getD values j 0) i ++ drop (12 * i) buffer₀)
+Inv-loop head n buffer₀ values i₀ buffer i =
+    (i ≤ n) × (length buffer ≡ length buffer₀) × (buffer ≡ recordsOf head (λ j. getD values j 0) i ++ drop (12 * i) buffer₀)
 
 abbrev μ-loop : tie.MeasureT-loop
-μ-loop n buffer₀ values i₀ buffer i = n - i
+μ-loop head n buffer₀ values i₀ buffer i = n - i
 
 loop-holds : tie.Need-loop-holds Inv-loop μ-loop
 unfolding recordsOf
@@ -64,7 +64,7 @@ loop-again c =
       omega arith,
       omega (arith, c .before .buffer .given .1, turn .inv .1),
       rw (turn .inv .2)
-          (written-more (λ j. getD (s .t1) j 0) (now (s .buffer)) (turn .i) (c .before .before .before .before .letter-at .ensures)
+          (written-more (s .head) (λ j. getD (s .t1) j 0) (now (s .buffer)) (turn .i) (c .before .before .before .before .letter-at .ensures)
           (c .before .before .before .number-at .ensures) (c .before .before .write-record .ensures)),
     )
 
