@@ -29,24 +29,24 @@ marked-here w p r on b m = m p b ∙ ap (λ (z : Bool). cond z on (inSet w p)) (
 marked-other : (w p r q : ℕ) (on : Bool) → q < 16 → q ≢ p → Marked 16 w p on r → inSet r q ≡ inSet w q
 marked-other w p r q on b n m = m q b ∙ ap (λ (z : Bool). cond z on (inSet w q)) (ne-eqb q p n)
 
-module _ (old new budgets : List ℕ) (tick set₀ set′ p : ℕ) where
+module _ (old new budgets : List ℕ) (need set₀ set′ p : ℕ) where
   -- the others' totals are as they were
-  pub reweighed : ((q : ℕ) → q ≢ p → getD new q 0 ≡ getD old q 0) → p < 16 → Marked 16 set₀ p (hasAt new budgets tick p) set′ → Reweighed old new budgets tick set₀ set′
+  pub reweighed : ((q : ℕ) → q ≢ p → getD new q 0 ≡ getD old q 0) → p < 16 → Marked 16 set₀ p (hasAt new budgets need p) set′ → Reweighed old new budgets need set₀ set′
   reweighed same low m n few h q b = go (ℕ-discrete q p)
     where
-      go : Dec (q ≡ p) → inSet set′ q ≡ hasAt new budgets tick q
-      go (yes e) = subst (λ (j : ℕ). inSet set′ j ≡ hasAt new budgets tick j) (sym e) (marked-here set₀ p set′ (hasAt new budgets tick p) low m)
+      go : Dec (q ≡ p) → inSet set′ q ≡ hasAt new budgets need q
+      go (yes e) = subst (λ (j : ℕ). inSet set′ j ≡ hasAt new budgets need j) (sym e) (marked-here set₀ p set′ (hasAt new budgets need p) low m)
       go (no k) =
-          marked-other set₀ p set′ q (hasAt new budgets tick p) (omega (arith, b, few)) k m ∙ h q b
-          ∙ ap (λ (x : ℕ). hasBudgetOf (remainingOf (getD budgets q 0) x) tick) (sym (same q k))
+          marked-other set₀ p set′ q (hasAt new budgets need p) (omega (arith, b, few)) k m ∙ h q b
+          ∙ ap (λ (x : ℕ). hasBudgetOf (remainingOf (getD budgets q 0) x) need) (sym (same q k))
 
 -- one total was stored
-pub reweighed-set : (old budgets : List ℕ) (tick set₀ set′ p v : ℕ) → p < 16 → length old ≡ 16
-    → Marked 16 set₀ p (hasBudgetOf (remainingOf (getD budgets p 0) v) tick) set′ → Reweighed old (set old p v) budgets tick set₀ set′
-reweighed-set old budgets tick set₀ set′ p v low wide m =
+pub reweighed-set : (old budgets : List ℕ) (need set₀ set′ p v : ℕ) → p < 16 → length old ≡ 16
+    → Marked 16 set₀ p (hasBudgetOf (remainingOf (getD budgets p 0) v) need) set′ → Reweighed old (set old p v) budgets need set₀ set′
+reweighed-set old budgets need set₀ set′ p v low wide m =
     let e : v ≡ getD (set old p v) p 0 = sym (getD-set-same old p v 0 (omega (arith, low, wide))) in
-    reweighed old (set old p v) budgets tick set₀ set′ p (λ q n. getD-set-other old p q v 0 n) low
-    (subst (λ (x : ℕ). Marked 16 set₀ p (hasBudgetOf (remainingOf (getD budgets p 0) x) tick) set′) e m)
+    reweighed old (set old p v) budgets need set₀ set′ p (λ q n. getD-set-other old p q v 0 n) low
+    (subst (λ (x : ℕ). Marked 16 set₀ p (hasBudgetOf (remainingOf (getD budgets p 0) x) need) set′) e m)
 
 -- a slot in which nothing stands
 pub nothing-held : (l : List ℕ) (p held : ℕ) → held ≡ 0 → l ≡ set l p (getD l p 0 - held)
@@ -57,20 +57,20 @@ nothing-there l k e = sym (ap (set l k) (sym e) ∙ set-getD l k 0)
 
 -- ---- one partition more
 
-module _ (totals budgets : List ℕ) (tick : ℕ) where
-  pub weighed-more : (i set₀ set′ : ℕ) → i < 16 → Marked 16 set₀ i (hasAt totals budgets tick i) set′ → WeighedIn totals budgets tick i set₀
-      → WeighedIn totals budgets tick (i + 1) set′
+module _ (totals budgets : List ℕ) (need : ℕ) where
+  pub weighed-more : (i set₀ set′ : ℕ) → i < 16 → Marked 16 set₀ i (hasAt totals budgets need i) set′ → WeighedIn totals budgets need i set₀
+      → WeighedIn totals budgets need (i + 1) set′
   weighed-more i set₀ set′ low m h q b = go (ℕ-discrete q i)
     where
-      go : Dec (q ≡ i) → inSet set′ q ≡ hasAt totals budgets tick q
-      go (yes e) = subst (λ (j : ℕ). inSet set′ j ≡ hasAt totals budgets tick j) (sym e) (marked-here set₀ i set′ (hasAt totals budgets tick i) low m)
+      go : Dec (q ≡ i) → inSet set′ q ≡ hasAt totals budgets need q
+      go (yes e) = subst (λ (j : ℕ). inSet set′ j ≡ hasAt totals budgets need j) (sym e) (marked-here set₀ i set′ (hasAt totals budgets need i) low m)
       go (no k) =
           let c : q < i = omega arith in
-          marked-other set₀ i set′ q (hasAt totals budgets tick i) (omega (arith, c, low)) k m ∙ h q c
+          marked-other set₀ i set′ q (hasAt totals budgets need i) (omega (arith, c, low)) k m ∙ h q c
 
 -- one change after another
-pub reweighed-twice : (a b c budgets : List ℕ) (tick x y z : ℕ) → Reweighed a b budgets tick x y → Reweighed b c budgets tick y z → Reweighed a c budgets tick x z
-reweighed-twice a b c budgets tick x y z f g = λ n few h. g n few (f n few h)
+pub reweighed-twice : (a b c budgets : List ℕ) (need x y z : ℕ) → Reweighed a b budgets need x y → Reweighed b c budgets need y z → Reweighed a c budgets need x z
+reweighed-twice a b c budgets need x y z f g = λ n few h. g n few (f n few h)
 
 -- ---- a slot is cleared, one partition more
 

@@ -56,8 +56,8 @@ module _ (c : Settings) (u : List ℕ) (k : Clock) (p h u′ : List ℕ) (k′ :
   idle-same : k .running ≡ 255 → (q : ℕ) → getD u′ q 0 ≡ getD u q 0
   idle-same i q = total-as q (map cycles u) (totals ∙ used-idle s (elapsedOf stamp (k .stamp)) i) ∙ used-at u q
 
-  pub idle-weighed : (budgets : List ℕ) (tick set₀ : ℕ) → k .running ≡ 255 → Reweighed u u′ budgets tick set₀ set₀
-  idle-weighed budgets tick set₀ i n few w q b = w q b ∙ ap (λ (x : ℕ). hasBudgetOf (remainingOf (getD budgets q 0) x) tick) (sym (idle-same i q))
+  pub idle-weighed : (budgets : List ℕ) (need set₀ : ℕ) → k .running ≡ 255 → Reweighed u u′ budgets need set₀ set₀
+  idle-weighed budgets need set₀ i n few w q b = w q b ∙ ap (λ (x : ℕ). hasBudgetOf (remainingOf (getD budgets q 0) x) need) (sym (idle-same i q))
 
   others : k .running ≢ 255 → k .running < 64 → (q : ℕ) → q ≢ payerOf k p → getD u′ q 0 ≡ getD u q 0
   others on low q n =
@@ -66,9 +66,9 @@ module _ (c : Settings) (u : List ℕ) (k : Clock) (p h u′ : List ℕ) (k′ :
       total-as q _ (totals ∙ used-paid s (elapsedOf stamp (k .stamp)) on)
       ∙ ap (λ (y : Cycles). y .0) (getD-set-other (map cycles u) (thread s (k .running) .partition) q x (cycles 0) (λ e. n (e ∙ who))) ∙ used-at u q
 
-  pub paid-weighed : (budgets : List ℕ) (tick set₀ set′ : ℕ) → k .running ≢ 255 → k .running < 64 → payerOf k p < 16
-      → Marked 16 set₀ (payerOf k p) (hasAt u′ budgets tick (payerOf k p)) set′ → Reweighed u u′ budgets tick set₀ set′
-  paid-weighed budgets tick set₀ set′ on low b m = reweighed u u′ budgets tick set₀ set′ (payerOf k p) (others on low) b m
+  pub paid-weighed : (budgets : List ℕ) (need set₀ set′ : ℕ) → k .running ≢ 255 → k .running < 64 → payerOf k p < 16
+      → Marked 16 set₀ (payerOf k p) (hasAt u′ budgets need (payerOf k p)) set′ → Reweighed u u′ budgets need set₀ set′
+  paid-weighed budgets need set₀ set′ on low b m = reweighed u u′ budgets need set₀ set′ (payerOf k p) (others on low) b m
 
 -- ---- a tick
 

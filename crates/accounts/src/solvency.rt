@@ -1,4 +1,5 @@
-// Who has budget, kept as a set of partitions: made once, and renewed for a partition whenever its total changes.
+// Who has budget, kept as a set of partitions: made once, and renewed for a partition whenever its total changes. `need` is how many cycles must
+// remain of a budget.
 ghost use mathlib.Core.Path.{_≡_};
 ghost use Prim.Native.Nat.{_-_, _*_, _≤_, _<_};
 ghost use lib.ListN.{length, getD, set};
@@ -14,35 +15,35 @@ use units::Cycles;
 use units::Ticks;
 
 // Partition p has budget, or has not; the others stay.
-fn weigh(solvent: u16, used: Cycles, budget: Cycles, tick: Cycles, p: u8) -> u16
+fn weigh(solvent: u16, used: Cycles, budget: Cycles, need: Cycles, p: u8) -> u16
     requires { ⌜ p < 16 ⌝ }
-    ensures { λ r. ⌜ Marked 16 solvent p (hasBudgetOf (remainingOf (budget .0) (used .0)) (tick .0)) r ⌝ }
+    ensures { λ r. ⌜ Marked 16 solvent p (hasBudgetOf (remainingOf (budget .0) (used .0)) (need .0)) r ⌝ }
 {
     let rest = units::remaining(budget, used);
-    let has = units::has_budget(rest, tick);
+    let has = units::has_budget(rest, need);
     sets::mark(solvent, p, has)
 }
 
 // After partition p was charged.
-pub fn weigh_at(used: &[u32; 16], budgets: &[u32; 16], tick: Cycles, solvent: u16, p: u8) -> u16
+pub fn weigh_at(used: &[u32; 16], budgets: &[u32; 16], need: Cycles, solvent: u16, p: u8) -> u16
     requires { ⌜ p < 16 ⌝ }
-    ensures { λ r. ⌜ Marked 16 solvent p (hasAt (now (used .entry)) (now (budgets .entry)) (tick .0) p) r ⌝ }
+    ensures { λ r. ⌜ Marked 16 solvent p (hasAt (now (used .entry)) (now (budgets .entry)) (need .0) p) r ⌝ }
 {
     let at = p as usize;
     let u = used[at];
     let b = budgets[at];
-    weigh(solvent, Cycles(u), Cycles(b), tick, p)
+    weigh(solvent, Cycles(u), Cycles(b), need, p)
 }
 
 // All partitions.
-pub fn weigh_all(used: &[u32; 16], budgets: &[u32; 16], tick: Cycles, count: u32) -> u16
+pub fn weigh_all(used: &[u32; 16], budgets: &[u32; 16], need: Cycles, count: u32) -> u16
     requires { ⌜ count ≤ 16 ⌝ }
-    ensures { λ r. ⌜ WeighedIn (now (used .entry)) (now (budgets .entry)) (tick .0) count r ⌝ }
+    ensures { λ r. ⌜ WeighedIn (now (used .entry)) (now (budgets .entry)) (need .0) count r ⌝ }
 {
     let mut set: u16 = 0;
     let mut p: u8 = 0;
     while (p as u32) < count {
-        set = weigh_at(used, budgets, tick, set, p);
+        set = weigh_at(used, budgets, need, set, p);
         p += 1;
     }
     set
@@ -54,7 +55,7 @@ fn clear_in_row(
     budgets: &[u32; 16],
     row: &mut [u32],
     slot: Ticks,
-    tick: Cycles,
+    need: Cycles,
     solvent: u16,
     p: u8,
 ) -> u16
@@ -62,7 +63,7 @@ fn clear_in_row(
     ensures { λ r. ⌜
         (now (used .exit) ≡ set (now (used .entry)) p (getD (now (used .entry)) p 0 - getD (now (row .entry)) (slot .0) 0))
         × (now (row .exit) ≡ set (now (row .entry)) (slot .0) 0)
-        × Reweighed (now (used .entry)) (now (used .exit)) (now (budgets .entry)) (tick .0) solvent r
+        × Reweighed (now (used .entry)) (now (used .exit)) (now (budgets .entry)) (need .0) solvent r
         ⌝ }
 {
     let k = slot.0 as usize;
@@ -75,7 +76,7 @@ fn clear_in_row(
     row[k] = 0;
     used[at] = total.0;
     let b = budgets[at];
-    weigh(solvent, total, Cycles(b), tick, p)
+    weigh(solvent, total, Cycles(b), need, p)
 }
 
 // A tick's clearing: one slot for every partition. Each row's part of the lent history is lent on to the function that clears it.
@@ -86,14 +87,14 @@ pub fn clear_slot(
     window: Ticks,
     count: u32,
     slot: Ticks,
-    tick: Cycles,
+    need: Cycles,
     solvent: u16,
 ) -> u16
     requires { ⌜ (length (now used) ≡ 16) × Covered (now used) (now history) (window .0) count (slot .0) ⌝ }
     ensures { λ r. ⌜
         (now (used .exit) ≡ lowered (window .0) (slot .0) count (now (used .entry)) (now (history .entry)))
         × (now (history .exit) ≡ clearHistory (window .0) (slot .0) count (now (history .entry)))
-        × Reweighed (now (used .entry)) (now (used .exit)) (now (budgets .entry)) (tick .0) solvent r
+        × Reweighed (now (used .entry)) (now (used .exit)) (now (budgets .entry)) (need .0) solvent r
         ⌝ }
 {
     let w = window.0 as usize;
@@ -102,7 +103,7 @@ pub fn clear_slot(
     while (p as u32) < count {
         let start = (p as usize) * w;
         let end = start + w;
-        set = clear_in_row(used, budgets, &mut history[start..end], slot, tick, set, p);
+        set = clear_in_row(used, budgets, &mut history[start..end], slot, need, set, p);
         p += 1;
     }
     set

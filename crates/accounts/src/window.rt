@@ -11,7 +11,7 @@ ghost use mathlib.Core.Path.{_≡_};
 ghost use Prim.Native.Nat.{_*_, _≤_, _<_};
 ghost use lib.ListN.{length};
 ghost use Rattle.units.specs.Units.{nextOf};
-ghost use Rattle.sheet.specs.Settings.{W, C};
+ghost use Rattle.sheet.specs.Settings.{W, need};
 ghost use Rattle.accounts.specs.Charged.{Payable, Charged};
 ghost use Rattle.accounts.specs.Lowered.{Covered};
 ghost use Rattle.accounts.specs.Solvency.{WeighedIn, Reweighed};
@@ -37,10 +37,9 @@ pub fn pay(
     requires { ⌜ Payable settings (now used) c (now partitions) (now history) stamp ⌝ }
     ensures { λ r. ⌜
         Charged settings (now (used .entry)) c (now (partitions .entry)) (now (history .entry)) (now (used .exit)) (r .clock) (now (history .exit)) stamp
-        × Reweighed (now (used .entry)) (now (used .exit)) (now (budgets .entry)) (C settings) solvent (r .solvent)
+        × Reweighed (now (used .entry)) (now (used .exit)) (now (budgets .entry)) (need settings) solvent (r .solvent)
         ⌝ }
 {
-    let tick = settings.tick;
     let running = c.running;
     let clock = charging::charge(settings, used, partitions, history, c, stamp);
     if running == IDLE {
@@ -50,7 +49,8 @@ pub fn pay(
         };
     }
     let p = partitions[running as usize];
-    let set = solvency::weigh_at(used, budgets, tick, solvent, p);
+    let need = units::need(settings.edition, settings.tick);
+    let set = solvency::weigh_at(used, budgets, need, solvent, p);
     Account {
         clock: clock,
         solvent: set,
@@ -71,13 +71,13 @@ pub fn move_slot(
         ⌝ }
     ensures { λ r. ⌜
         Moved settings (now (used .entry)) c (now (history .entry)) (now (used .exit)) (r .clock) (now (history .exit))
-        × Reweighed (now (used .entry)) (now (used .exit)) (now (budgets .entry)) (C settings) solvent (r .solvent)
+        × Reweighed (now (used .entry)) (now (used .exit)) (now (budgets .entry)) (need settings) solvent (r .solvent)
         ⌝ }
 {
     let window = settings.window;
-    let tick = settings.tick;
     let slot = c.slot;
     let next = units::next_slot(slot, window);
+    let need = units::need(settings.edition, settings.tick);
     let set = solvency::clear_slot(
         used,
         budgets,
@@ -85,7 +85,7 @@ pub fn move_slot(
         window,
         settings.count,
         next,
-        tick,
+        need,
         solvent,
     );
     let since = Cycles(0);
@@ -114,14 +114,14 @@ pub fn restart(
     requires { ⌜ (settings .count ≤ 16) × (settings .count * W settings ≤ length (now history)) ⌝ }
     ensures { λ r. ⌜
         Restarted settings (now (used .entry)) c (now (history .entry)) (now (used .exit)) (r .clock) (now (history .exit)) stamp
-        × WeighedIn (now (used .exit)) (now (budgets .entry)) (C settings) (settings .count) (r .solvent)
+        × WeighedIn (now (used .exit)) (now (budgets .entry)) (need settings) (settings .count) (r .solvent)
         ⌝ }
 {
-    let tick = settings.tick;
     let window = settings.window;
     history::clear_rows(history, window, settings.count);
     *used = [0u32; 16];
-    let set = solvency::weigh_all(used, budgets, tick, settings.count);
+    let need = units::need(settings.edition, settings.tick);
+    let set = solvency::weigh_all(used, budgets, need, settings.count);
     let first = Ticks(0);
     let since = Cycles(0);
     let clock = Clock {

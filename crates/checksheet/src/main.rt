@@ -12,7 +12,7 @@ fn answer(sheet: &[u8]) {
         refuse(outcome);
         return;
     };
-    let mut buffer = [0u8; 240];
+    let mut buffer = [0u8; 252];
     let settings = reading.settings;
     let writing = sheet::write_sheet(settings, &mut buffer);
     let n = writing.length;
@@ -29,7 +29,7 @@ fn refuse(outcome: Outcome) {
 
 fn main() {
     // One record more than a sheet may have, so that a longer input is refused as it stands.
-    let mut buffer = [0u8; 252];
+    let mut buffer = [0u8; 264];
     let n = io::read_full(STDIN_FILENO, &mut buffer);
     answer(&buffer[..n]);
 }

@@ -7,7 +7,7 @@ use mathlib.Core.List.{List}
 use mathlib.Core.Option.{Option, none, some}
 use lib.ListN.{getD, take}
 use lib.Dec.{eqb}
-use Rattle.sheet.specs.Settings.{C}
+use Rattle.sheet.specs.Settings.{need}
 use Rattle.sheet.specs.declared.Settings.{Settings}
 use Rattle.model.specs.Answers.{decidedOf}
 use Rattle.model.specs.Facts.{Settled}
@@ -26,7 +26,7 @@ use Rattle.decision.specs.declared.kept.Sets.{Sets}
 pub record Held (c : Settings) (totals partitions priorities masks line budgets tops firsts : List ℕ) (sets : Sets) : Type 0 where
   pub priced : Priced c budgets (sets .paying)
   pub led : KeptIn (c .core) partitions priorities masks line tops firsts (sets .competing)
-  pub weighed : WeighedIn totals budgets (C c) (c .count) (sets .solvent)
+  pub weighed : WeighedIn totals budgets (need c) (c .count) (sets .solvent)
 
 -- the same beside a clock, the threads' columns and the queue
 abbrev pub HeldBy : Settings → List ℕ → Clock → Columns → List ℕ → List ℕ → List ℕ → List ℕ → Sets → Type 0

@@ -40,7 +40,6 @@ pub fn begin(
         (now (budgets .exit)) (now (tops .exit)) (now (firsts .exit)) r
         ⌝ }
 {
-    let tick = settings.tick;
     let paying = solvency::price(budgets, settings);
     let competing = leads::build(
         tops,
@@ -52,7 +51,8 @@ pub fn begin(
         queued,
         settings.core,
     );
-    let solvent = solvency::weigh_all(used, budgets, tick, settings.count);
+    let need = units::need(settings.edition, settings.tick);
+    let solvent = solvency::weigh_all(used, budgets, need, settings.count);
     Sets {
         paying: paying,
         competing: competing,

@@ -46,7 +46,7 @@ fn keep(events: &mut [u8], from: usize, n: usize)
 
 // The events are answered, and their lines printed. False: they cannot be printed.
 fn answer(
-    settings: &[u32; 5],
+    settings: &[u32; 7],
     shares: &[u32; 16],
     used: &mut [u32; 16],
     clock: &mut [u32; 5],
@@ -93,7 +93,7 @@ struct Turn {
 
 // Reads once and answers the whole records; at the end of the input, what is left of a cut one.
 fn serve_once(
-    settings: &[u32; 5],
+    settings: &[u32; 7],
     shares: &[u32; 16],
     used: &mut [u32; 16],
     clock: &mut [u32; 5],
@@ -165,7 +165,7 @@ fn serve_once(
 
 // Turn after turn, until the input ends or the output can no longer be written.
 fn serve(
-    settings: &[u32; 5],
+    settings: &[u32; 7],
     shares: &[u32; 16],
     used: &mut [u32; 16],
     clock: &mut [u32; 5],
@@ -214,10 +214,10 @@ fn serve(
 
 fn main() {
     // One record more than a sheet may have, so that a longer file is refused as it stands.
-    let mut sheet = [0u8; 252];
+    let mut sheet = [0u8; 264];
     let n = read_sheet(&mut sheet);
     // The state, and room for the largest history: 16 partitions and 400 ticks.
-    let mut settings = [0u32; 5];
+    let mut settings = [0u32; 7];
     let mut shares = [0u32; 16];
     let mut used = [0u32; 16];
     let mut clock = [0u32; 5];

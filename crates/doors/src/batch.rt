@@ -81,7 +81,7 @@ fn enter(
 // Every record of the events that has room for its line of twelve bytes; the last may be cut. What is left over is for the next run: how many
 // records are taken, the caller can work out (takenBy). Refused are 8, 7 and 8 as for an event; then no record is taken, and no line is written.
 pub fn run(
-    settings: &[u32; 5],
+    settings: &[u32; 7],
     shares: &[u32; 16],
     used: &mut [u32; 16],
     clock: &mut [u32; 5],

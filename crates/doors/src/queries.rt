@@ -17,7 +17,7 @@ use units::Cycles;
 // for, so that on what an event left it repeats that event's answer. Refused are, in this order: settings outside their
 // limits (8), a history too short (7), a state not sound (8).
 pub fn decision(
-    settings: &[u32; 5],
+    settings: &[u32; 7],
     shares: &[u32; 16],
     used: &[u32; 16],
     clock: &[u32; 5],
@@ -87,7 +87,7 @@ pub fn decision(
 // The remaining door: what remains of the partition's budget, below zero after an overrun. It refuses what the decision door refuses, and
 // then a partition not below the count (12).
 pub fn remaining(
-    settings: &[u32; 5],
+    settings: &[u32; 7],
     shares: &[u32; 16],
     used: &[u32; 16],
     clock: &[u32; 5],

@@ -89,7 +89,7 @@ fn enter(
 // Refused are, in this order: settings outside their limits (8), a history too short (7), a state not sound (8), and then the event (14, 9 to
 // 13). Otherwise the arrays hold the next state.
 pub fn event(
-    settings: &[u32; 5],
+    settings: &[u32; 7],
     shares: &[u32; 16],
     used: &mut [u32; 16],
     clock: &mut [u32; 5],

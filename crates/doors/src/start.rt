@@ -17,7 +17,7 @@ use sheet::Settings;
 // "A fresh start has history zero, stamp 0, slot 0, no threads, idle": what is lent holds it, and the numbers after the last row stay.
 fn begin(
     s: Settings,
-    settings: &mut [u32; 5],
+    settings: &mut [u32; 7],
     shares: &mut [u32; 16],
     used: &mut [u32; 16],
     clock: &mut [u32; 5],
@@ -52,7 +52,7 @@ fn begin(
 // A fresh start from a sheet's bytes. Refused are 1 to 6 as for the sheet, then a history too short (7).
 pub fn start(
     sheet: &[u8],
-    settings: &mut [u32; 5],
+    settings: &mut [u32; 7],
     shares: &mut [u32; 16],
     used: &mut [u32; 16],
     clock: &mut [u32; 5],

@@ -34,8 +34,8 @@ fn percents(n: &[u32; 16]) -> [Percent; 16]
     ]
 }
 
-// W, C, P, M and the count; the shares.
-pub fn settings_in(numbers: &[u32; 5], shares: &[u32; 16]) -> Settings
+// W, C, P, M, E, whether E is stated, and the count; the shares.
+pub fn settings_in(numbers: &[u32; 7], shares: &[u32; 16]) -> Settings
     ensures { λ r. ⌜ r ≡ settingsFrom (now (numbers .entry)) (now (shares .entry)) ⌝ }
 {
     let window = Ticks(numbers[0]);
@@ -46,18 +46,28 @@ pub fn settings_in(numbers: &[u32; 5], shares: &[u32; 16]) -> Settings
         tick: tick,
         policy: numbers[2],
         core: numbers[3],
-        count: numbers[4],
+        edition: numbers[4],
+        stated: numbers[5],
+        count: numbers[6],
         shares: list,
     }
 }
 
 // The settings are stored.
-pub fn keep_settings(numbers: &mut [u32; 5], shares: &mut [u32; 16], s: Settings)
+pub fn keep_settings(numbers: &mut [u32; 7], shares: &mut [u32; 16], s: Settings)
     requires { ⌜ length (s .shares) ≡ 16 ⌝ }
     ensures { λ _. ⌜ settingsFrom (now (numbers .exit)) (now (shares .exit)) ≡ s ⌝ }
 {
     let list = s.shares;
-    *numbers = [s.window.0, s.tick.0, s.policy, s.core, s.count];
+    *numbers = [
+        s.window.0,
+        s.tick.0,
+        s.policy,
+        s.core,
+        s.edition,
+        s.stated,
+        s.count,
+    ];
     *shares = amounts(list);
 }
 

@@ -20,7 +20,7 @@ use refusals::Outcome;
 #[no_mangle]
 pub extern "C" fn saplingloft_lent_start(
     sheet: &[u8],
-    settings: &mut [u32; 5],
+    settings: &mut [u32; 7],
     shares: &mut [u32; 16],
     used: &mut [u32; 16],
     clock: &mut [u32; 5],
@@ -62,7 +62,7 @@ pub extern "C" fn saplingloft_lent_start(
 // An event of any bytes. The answer holds refusal, mode, partition and thread, a byte each, the refusal lowest.
 #[no_mangle]
 pub extern "C" fn saplingloft_lent_event(
-    settings: &[u32; 5],
+    settings: &[u32; 7],
     shares: &[u32; 16],
     used: &mut [u32; 16],
     clock: &mut [u32; 5],
@@ -105,7 +105,7 @@ pub extern "C" fn saplingloft_lent_event(
 // The decision for a state. The answer is as an event's.
 #[no_mangle]
 pub extern "C" fn saplingloft_lent_decision(
-    settings: &[u32; 5],
+    settings: &[u32; 7],
     shares: &[u32; 16],
     used: &[u32; 16],
     clock: &[u32; 5],
@@ -157,7 +157,7 @@ fn tell(balance: Balance, remaining: &mut [u32; 1]) -> u32
 // nothing.
 #[no_mangle]
 pub extern "C" fn saplingloft_lent_remaining(
-    settings: &[u32; 5],
+    settings: &[u32; 7],
     shares: &[u32; 16],
     used: &[u32; 16],
     clock: &[u32; 5],
@@ -202,7 +202,7 @@ pub extern "C" fn saplingloft_lent_remaining(
 #[no_mangle]
 pub extern "C" fn saplingloft_lent_read_sheet(
     sheet: &[u8],
-    settings: &mut [u32; 5],
+    settings: &mut [u32; 7],
     shares: &mut [u32; 16],
 ) -> u32
     ensures { λ r. ⌜ SheetRead (now (sheet .entry)) (now (settings .entry)) (now (shares .entry)) r (now (settings .exit)) (now (shares .exit)) ⌝ }
@@ -222,7 +222,7 @@ pub extern "C" fn saplingloft_lent_read_sheet(
 // Settings and shares as a sheet, at the start of the lent bytes. The answer is the refusal, or 0; nothing is written beside a refusal.
 #[no_mangle]
 pub extern "C" fn saplingloft_lent_write_sheet(
-    settings: &[u32; 5],
+    settings: &[u32; 7],
     shares: &[u32; 16],
     sheet: &mut [u8],
 ) -> u32

@@ -7,7 +7,7 @@ use lines::numbers;
 // Every record of the events that has room for its line of twelve bytes. The answer is the refusal, or 0.
 #[no_mangle]
 pub extern "C" fn saplingloft_lent_run(
-    settings: &[u32; 5],
+    settings: &[u32; 7],
     shares: &[u32; 16],
     used: &mut [u32; 16],
     clock: &mut [u32; 5],

@@ -18,7 +18,7 @@ use Rattle.lists.proofs.Tests.{clash}
 use Rattle.lists.proofs.Sums.{entry-le}
 use Rattle.lists.proofs.Parts.{row-end, part-at}
 use Rattle.units.specs.Units.{elapsedOf, nextOf}
-use Rattle.sheet.specs.Settings.{W, C}
+use Rattle.sheet.specs.Settings.{W, C, need}
 use Rattle.sheet.specs.declared.Settings.{Settings}
 use Rattle.model.specs.State.{thread, used, queueOf, idle, wanted, State, Thread}
 use Rattle.model.specs.Typed.{Lengths}
@@ -198,11 +198,11 @@ module _ (c : Settings) (u : List ℕ) (k : Clock) (ts : Columns) (q h budgets t
     pub ticking : Ticking c u k p h (x .stamp)
     ticking = record { payable = payable; movable = movable }
 
-  pub weighed : (u′ : List ℕ) (set′ : ℕ) → Reweighed u u′ budgets (C c) (sets .solvent) set′ → WeighedIn u′ budgets (C c) (c .count) set′
+  pub weighed : (u′ : List ℕ) (set′ : ℕ) → Reweighed u u′ budgets (need c) (sets .solvent) set′ → WeighedIn u′ budgets (need c) (c .count) set′
   weighed u′ set′ w = w (c .count) (settled .limits .count-high) (g .held .weighed)
 
   -- what is kept, where threads and queue stay
-  stays : (u′ : List ℕ) (k′ : Clock) (set′ : ℕ) → k′ .queued ≡ k .queued → WeighedIn u′ budgets (C c) (c .count) set′
+  stays : (u′ : List ℕ) (k′ : Clock) (set′ : ℕ) → k′ .queued ≡ k .queued → WeighedIn u′ budgets (need c) (c .count) set′
       → HeldBy c u′ k′ ts q budgets tops firsts (record { paying = sets .paying; competing = sets .competing; solvent = set′ })
   stays u′ k′ set′ i w = record {
     priced = g .held .priced;
@@ -300,7 +300,7 @@ module _ (c : Settings) (u : List ℕ) (k : Clock) (ts : Columns) (q h budgets t
         home : ended ≡ true → getD p (k .running) 0 < 16
         home t = omega (arith, there t .1, partition-is c u k ts q (g .sizes) (k .running), settled .limits .count-high)
 
-    pub tick-applied : (set′ competing′ : ℕ) (tops′ firsts′ : List ℕ) → Reweighed u u′ budgets (C c) (sets .solvent) set′
+    pub tick-applied : (set′ competing′ : ℕ) (tops′ firsts′ : List ℕ) → Reweighed u u′ budgets (need c) (sets .solvent) set′
         → KeptIn (c .core) p (ts .priorities) (ts .masks) (take (k .queued) q′) tops′ firsts′ competing′
         → Applied c v u′ k′ later q′ h′ budgets tops′ firsts′ (record { paying = sets .paying; competing = competing′; solvent = set′ }) b
     tick-applied set′ competing′ tops′ firsts′ w led = record {
@@ -313,7 +313,7 @@ module _ (c : Settings) (u : List ℕ) (k : Clock) (ts : Columns) (q h budgets t
       };
     }
 
-  pub resumed : kindOf b ≡ 7 → (u′ : List ℕ) (k′ : Clock) (h′ : List ℕ) (set′ : ℕ) → Restarted c u k h u′ k′ h′ (x .stamp) → WeighedIn u′ budgets (C c) (c .count) set′
+  pub resumed : kindOf b ≡ 7 → (u′ : List ℕ) (k′ : Clock) (h′ : List ℕ) (set′ : ℕ) → Restarted c u k h u′ k′ h′ (x .stamp) → WeighedIn u′ budgets (need c) (c .count) set′
       → Applied c v u′ k′ ts q h′ budgets tops firsts (record { paying = sets .paying; competing = sets .competing; solvent = set′ }) b
   resumed i u′ k′ h′ set′ d w = record {
     state = d ts q ∙ ap (λ (j : ℕ). restart v j) (g .stamped) ∙ applied-resume v b i;
@@ -392,7 +392,7 @@ module _ (c : Settings) (u : List ℕ) (k : Clock) (ts : Columns) (q h budgets t
         kept = g .held .led;
       }
 
-      pub applied : (tops′ firsts′ : List ℕ) (set′ solvent′ : ℕ) → Reweighed u u′ budgets (C c) (sets .solvent) solvent′ → KeptIn (c .core) (ts′ .partitions) (ts′ .priorities) (ts′ .masks) (take i q′) tops′ firsts′ set′
+      pub applied : (tops′ firsts′ : List ℕ) (set′ solvent′ : ℕ) → Reweighed u u′ budgets (need c) (sets .solvent) solvent′ → KeptIn (c .core) (ts′ .partitions) (ts′ .priorities) (ts′ .masks) (take i q′) tops′ firsts′ set′
           → Applied c v u′ (withQueued k′ i) ts′ q′ h′ budgets tops′ firsts′ (record { paying = sets .paying; competing = set′; solvent = solvent′ }) b
       applied tops′ firsts′ set′ solvent′ w l = record {
         state = worked;

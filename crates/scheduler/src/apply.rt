@@ -14,7 +14,7 @@ ghost use mathlib.Core.Logic.{_≢_};
 ghost use Rattle.model.specs.Arrays.{columns, stateOf};
 ghost use Rattle.model.specs.Step.{saved};
 ghost use Rattle.model.specs.Event.{kindOf};
-ghost use Rattle.sheet.specs.Settings.{C};
+ghost use Rattle.sheet.specs.Settings.{need};
 ghost use Rattle.event.specs.Bytes.{bytesOf};
 ghost use Rattle.accounts.specs.Solvency.{Reweighed};
 ghost use Rattle.scheduler.specs.Effects.{Ready, Applied, Ticking, Ticked};
@@ -39,7 +39,7 @@ fn advance(
     requires { ⌜ Ticking settings (now used) c (now partitions) (now history) stamp ⌝ }
     ensures { λ r. ⌜
         Ticked settings (now (used .entry)) c (now (partitions .entry)) (now (history .entry)) (now (used .exit)) (r .clock) (now (history .exit)) stamp
-        × Reweighed (now (used .entry)) (now (used .exit)) (now (budgets .entry)) (C settings) solvent (r .solvent)
+        × Reweighed (now (used .entry)) (now (used .exit)) (now (budgets .entry)) (need settings) solvent (r .solvent)
         ⌝ }
 {
     let paid = window::pay(

@@ -61,7 +61,7 @@ returns-2 c =
     let total = c .before .before .less in (
       ap (λ (v : ℕ). set (now (a .used)) (a .p) v) (total .ensures),
       refl,
-      reweighed-set (now (a .used)) (now (a .budgets)) (a .tick .0) (a .solvent) (c .weigh .result) (a .p) (total .result .0)
+      reweighed-set (now (a .used)) (now (a .budgets)) (a .need .0) (a .solvent) (c .weigh .result) (a .p) (total .result .0)
           (start .pre .0) (start .pre .1) (c .weigh .ensures),
     )
 

@@ -15,12 +15,12 @@ use Rattle.accounts.proofs.solvency.clear_slot.Statement.{statement}
 use Rattle.accounts.proofs.solvency.clear_slot.Tie as tie
 
 abbrev Inv-loop : tie.InvT-loop
-Inv-loop used₀ budgets history₀ count slot tick solvent w set₀ p₀ used history set p =
+Inv-loop used₀ budgets history₀ count slot need solvent w set₀ p₀ used history set p =
     (p ≤ count) × (used ≡ lowered w (slot .0) p used₀ history₀) × (history ≡ clearHistory w (slot .0) p history₀) × (length history ≡ length history₀) × (length used ≡ 16)
-    × Reweighed used₀ used budgets (tick .0) solvent set
+    × Reweighed used₀ used budgets (need .0) solvent set
 
 abbrev μ-loop : tie.MeasureT-loop
-μ-loop used₀ budgets history₀ count slot tick solvent w set₀ p₀ used history set p = count - p
+μ-loop used₀ budgets history₀ count slot need solvent w set₀ p₀ used history set p = count - p
 
 cast-w : tie.Need-cast-w Inv-loop μ-loop
 cast-w c = search needs
@@ -106,7 +106,7 @@ loop-again c =
       back ∙ more,
       ap length (back ∙ more) ∙ clear-length (a .window .0) (a .slot .0) (turn .p + 1) (now (a .history)),
       ap length (row .ensures .0) ∙ long ∙ turn .inv .4,
-      reweighed-twice (now (a .used)) (turn .used) (row .last .0) (now (a .budgets)) (a .tick .0) (a .solvent) (turn .set) (row .result) (turn .inv .5) (row .ensures .2),
+      reweighed-twice (now (a .used)) (turn .used) (row .last .0) (now (a .budgets)) (a .need .0) (a .solvent) (turn .set) (row .result) (turn .inv .5) (row .ensures .2),
     )
 
 same-length : tie.Need-same-length Inv-loop μ-loop

@@ -28,7 +28,7 @@ returns c =
     let hb : a .budget .0 < 2 ^ 32 = omega arith in
     let hu : a .used .0 < 2 ^ 32 = omega arith in
     let fits : SFits w64 (rest .result) = rw (rest .ensures) (remaining-fits (a .budget .0) (a .used .0) hb hu) in
-    let e : c .before .has-budget .result ≡ hasBudgetOf (remainingOf (a .budget .0) (a .used .0)) (a .tick .0) = rw (c .before .has-budget .ensures, toZ-ofZ fits, rest .ensures) in
+    let e : c .before .has-budget .result ≡ hasBudgetOf (remainingOf (a .budget .0) (a .used .0)) (a .need .0) = rw (c .before .has-budget .ensures, toZ-ofZ fits, rest .ensures) in
     subst (λ (on : Bool). Marked 16 (a .solvent) (a .p) on (c .mark .result)) e (c .mark .ensures)
 
 pub weigh-spec : {M : Type 1} → statement M

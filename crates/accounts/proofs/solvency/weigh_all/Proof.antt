@@ -9,11 +9,11 @@ use Rattle.accounts.proofs.solvency.weigh_all.Statement.{statement}
 use Rattle.accounts.proofs.solvency.weigh_all.Tie as tie
 
 abbrev Inv-loop : tie.InvT-loop
-Inv-loop used budgets tick count set₀ p₀ set p =
-    (p ≤ count) × WeighedIn used budgets (tick .0) p set
+Inv-loop used budgets need count set₀ p₀ set p =
+    (p ≤ count) × WeighedIn used budgets (need .0) p set
 
 abbrev μ-loop : tie.MeasureT-loop
-μ-loop used budgets tick count set₀ p₀ set p = count - p
+μ-loop used budgets need count set₀ p₀ set p = count - p
 
 loop-holds : tie.Need-loop-holds Inv-loop μ-loop
 loop-holds c = (omega arith, λ q b. let w : ⊥ = omega arith in absurd w)
@@ -36,7 +36,7 @@ loop-again c =
     let a = start .args in
     let turn = c .before .before .loop in (
       omega arith,
-      weighed-more (now (a .used)) (now (a .budgets)) (a .tick .0) (turn .p) (turn .set) (c .weigh-at .result) (omega (arith, c .before .loop-test .taken, start .pre))
+      weighed-more (now (a .used)) (now (a .budgets)) (a .need .0) (turn .p) (turn .set) (c .weigh-at .result) (omega (arith, c .before .loop-test .taken, start .pre))
           (c .weigh-at .ensures) (turn .inv .1),
     )
 
@@ -45,7 +45,7 @@ returns c =
     let a = c .before .before .args in
     let turn = c .before .loop in
     let e : turn .p ≡ a .count = omega arith in
-    subst (λ (n : ℕ). WeighedIn (now (a .used)) (now (a .budgets)) (a .tick .0) n (turn .set)) e (turn .inv .1)
+    subst (λ (n : ℕ). WeighedIn (now (a .used)) (now (a .budgets)) (a .need .0) n (turn .set)) e (turn .inv .1)
 
 pub weigh-all-spec : {M : Type 1} → statement M
 weigh-all-spec =

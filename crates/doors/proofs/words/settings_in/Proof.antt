@@ -20,8 +20,14 @@ element-copy-out-t15 c = search needs
 element-copy-out-t18 : tie.Need-element-copy-out-t18
 element-copy-out-t18 c = search needs
 
+element-copy-out-t21 : tie.Need-element-copy-out-t21
+element-copy-out-t21 c = search needs
+
+element-copy-out-t24 : tie.Need-element-copy-out-t24
+element-copy-out-t24 c = search needs
+
 returns : tie.Need-returns
-returns c = rw (c .before .before .before .percents .ensures)
+returns c = rw (c .before .before .before .before .before .percents .ensures)
 
 pub settings-in-spec : {M : Type 1} → statement M
 settings-in-spec =
@@ -33,4 +39,6 @@ settings-in-spec =
     element-copy-out-t8-3
     element-copy-out-t15
     element-copy-out-t18
+    element-copy-out-t21
+    element-copy-out-t24
     returns)

@@ -1,7 +1,7 @@
 use mathlib.Core.Path.{ap, _∙_}
 use denote.Ref.{now}
 use Rattle.model.specs.Arrays.{withPartitionColumn}
-use Rattle.sheet.specs.Settings.{C}
+use Rattle.sheet.specs.Settings.{need}
 use Rattle.model.specs.Step.{moveSlot}
 use Rattle.accounts.proofs.SolvencyLaws.{reweighed-twice}
 use borrow.Author.Needs.{needs}
@@ -25,7 +25,7 @@ returns c =
     let d = c .before .before .before .before .before .before .before .before .pay in
     let f = c .before .before .move-slot in (
       (λ ts q. f .ensures .0 (withPartitionColumn ts (now (a .partitions))) q ∙ ap moveSlot (d .ensures .0 ts q)),
-      reweighed-twice (now (a .used)) (d .last .1 .0) (f .last .1 .0) (now (a .budgets)) (C (a .settings)) (a .solvent) (d .result .solvent) (f .result .solvent) (d .ensures .1) (f .ensures .1),
+      reweighed-twice (now (a .used)) (d .last .1 .0) (f .last .1 .0) (now (a .budgets)) (need (a .settings)) (a .solvent) (d .result .solvent) (f .result .solvent) (d .ensures .1) (f .ensures .1),
     )
 
 pub advance-spec : {M : Type 1} → statement M
