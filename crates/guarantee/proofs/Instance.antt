@@ -1,7 +1,7 @@
 -- The model of document 01 as a scheduler of specs/Scheduler, and that it obeys the laws.
 use mathlib.Core.Logic.{_≢_}
 use mathlib.Core.Path.{_≡_, refl, sym, ap, subst, _∙_}
-use Prim.Native.Nat.{ℕ, suc, _+_, _*_, _/_, _%_, _≤_, _<_}
+use Prim.Native.Nat.{ℕ, suc, _+_, _*_, _%_, _≤_, _<_}
 use mathlib.Core.Bool.{Bool, true, false, cond}
 use mathlib.Core.Option.{Option, some}
 use mathlib.Core.List.{List}
@@ -13,7 +13,7 @@ use native.Mathlib.Numerals.{add-one}
 use native.Mathlib.Nat.{mod-eq-of-lt, mod-self}
 use Rattle.lists.specs.Lists.{sum}
 use Rattle.lists.proofs.Parts.{row-of, row-length}
-use Rattle.sheet.specs.Settings.{W, C, budget, Limits}
+use Rattle.sheet.specs.Settings.{W, C, budget, need, Limits}
 use Rattle.sheet.specs.declared.Settings.{Settings}
 use Rattle.units.proofs.Laws.{has-budget}
 use Rattle.model.specs.State.{used, State}
@@ -56,10 +56,6 @@ model = record {
 abbrev pub rows : ℕ → History Saved
 rows w = record { row = λ v q. row-of w (v .history) q; slot = λ v. v .state .slot .0 }
 
--- the cycles that must remain of a budget: a quarter of a tick
-abbrev pub need : Settings → ℕ
-need c = C c / 4
-
 -- ---- the decision's laws
 
 module _ (x : Saved) (k : Settled (x .state) (x .history)) where
@@ -73,13 +69,13 @@ module _ (x : Saved) (k : Settled (x .state) (x .history)) where
   has-of : (p : ℕ) → p < c′ .count → sum (row′ p) + need c′ ≤ budget c′ p → hasBudget (x .state) p ≡ true
   unfolding hasBudget remaining
   has-of p i f =
-      let few : used (x .state) p + C c′ / 4 ≤ budget c′ p = omega (arith, k .books .totals p i) in
-      has-budget (budget c′ p) (used (x .state) p) (C c′) ∙ le-leb _ _ few
+      let few : used (x .state) p + need c′ ≤ budget c′ p = omega (arith, k .books .totals p i) in
+      has-budget (budget c′ p) (used (x .state) p) (need c′) ∙ le-leb _ _ few
 
   of-has : (p : ℕ) → p < c′ .count → hasBudget (x .state) p ≡ true → sum (row′ p) + need c′ ≤ budget c′ p
   unfolding hasBudget remaining
   of-has p i f =
-      let few : used (x .state) p + C c′ / 4 ≤ budget c′ p = leb-true _ _ (sym (has-budget (budget c′ p) (used (x .state) p) (C c′)) ∙ f) in
+      let few : used (x .state) p + need c′ ≤ budget c′ p = leb-true _ _ (sym (has-budget (budget c′ p) (used (x .state) p) (need c′)) ∙ f) in
       omega (arith, k .books .totals p i)
 
   -- whichever partition f is favoured

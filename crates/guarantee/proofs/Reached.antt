@@ -7,9 +7,9 @@ use mathlib.Core.List.{List, [], _∷_}
 use lib.ListN.{replicate}
 use native.Mathlib.Omega.{arith}
 use Rattle.lists.specs.Lists.{below, any, all, keep, first, maximum, distinct}
-use Rattle.units.specs.Units.{budgetOf, elapsedOf, remainingOf, hasBudgetOf, compareNumbers, compareFlags, compareFractions}
-use Rattle.sheet.specs.Limits.{windowFits, tickFits, policyAndCoreFit, countFits}
-use Rattle.sheet.specs.Settings.{budget, sharesFit, withinLimits}
+use Rattle.units.specs.Units.{budgetOf, elapsedOf, remainingOf, needOf, hasBudgetOf, compareNumbers, compareFlags, compareFractions}
+use Rattle.sheet.specs.Limits.{windowFits, tickFits, policyAndCoreFit, editionFits, countFits}
+use Rattle.sheet.specs.Settings.{budget, need, sharesFit, withinLimits}
 use Rattle.sheet.specs.declared.Settings.{Settings}
 use Rattle.model.specs.State.{thread, allows}
 use Rattle.model.specs.Slices
@@ -27,6 +27,8 @@ settings = record {
   tick = record { 0 = 1000 };
   policy = 0;
   core = 0;
+  edition = 1;
+  stated = 0;
   count = 1;
   shares = record { 0 = 100 } ∷ replicate 15 (record { 0 = 0 });
 }
@@ -64,7 +66,7 @@ record Met : Type 0 where
   fourth : Step.answer last (tick 4000) .refusal ≡ 0
 
 met : Met
-unfolding run after keepsReady staysReady ticksBefore below any all keep first maximum distinct budgetOf elapsedOf remainingOf hasBudgetOf compareNumbers compareFlags compareFractions budget windowFits tickFits policyAndCoreFit countFits sharesFit withinLimits allows Policy.candidates Policy.competing Policy.topPriority Policy.remaining Policy.hasBudget Policy.mode Policy.byBudget Policy.byPriority Policy.byFraction Policy._then_ Policy.ratioPolicy Policy.compare Policy.favours Policy.wins Policy.best Policy.better Policy.winner Policy.chosen Policy.decideFor Policy.decide Sound.slotSum Sound.soundHistory Sound.soundSlice Sound.soundThread Sound.soundQueue Sound.soundRest Sound.soundRunning Sound.sound Event.stampOf Event.wellFormed Event.known Event.namesPlace Event.namesPriority Event.tooLong Event.namesThread Event.wrongThread Event.wrongPlace Event.wrongReadiness Event.refusedState Event.refusedEvent Event.refused Step.billed Step.addUsed Step.addHistory Step.charge Step.clearHistory Step.lowerUsed Step.moveSlot Step.leaves Slices.sliceFor Slices.spent Slices.sliceAfter Step.turned Step.requeued Step.sliced Step.act Step.settle Step.restart Step.apply Step.answer
+unfolding run after keepsReady staysReady ticksBefore below any all keep first maximum distinct budgetOf elapsedOf remainingOf needOf hasBudgetOf compareNumbers compareFlags compareFractions budget need windowFits tickFits policyAndCoreFit editionFits countFits sharesFit withinLimits allows Policy.candidates Policy.competing Policy.topPriority Policy.remaining Policy.hasBudget Policy.mode Policy.byBudget Policy.byPriority Policy.byFraction Policy._then_ Policy.ratioPolicy Policy.compare Policy.favours Policy.wins Policy.best Policy.better Policy.winner Policy.chosen Policy.decideFor Policy.decide Sound.slotSum Sound.soundHistory Sound.soundSlice Sound.soundThread Sound.soundQueue Sound.soundRest Sound.soundRunning Sound.sound Event.stampOf Event.wellFormed Event.known Event.namesPlace Event.namesPriority Event.tooLong Event.namesThread Event.wrongThread Event.wrongPlace Event.wrongReadiness Event.refusedState Event.refusedEvent Event.refused Step.billed Step.addUsed Step.addHistory Step.charge Step.clearHistory Step.lowerUsed Step.moveSlot Step.leaves Slices.sliceFor Slices.spent Slices.sliceAfter Step.turned Step.requeued Step.sliced Step.act Step.settle Step.restart Step.apply Step.answer
 met = record {
   taken = refl;
   equals = record {

@@ -103,11 +103,12 @@ waits s es p = any (λ t. waitsIn p (s .settings .core) (knownAfter t (knownAt s
 
 -- ---- the demand
 
--- what each other partition may cost one that waits: "3 × C / 4", the part of a tick period that need not remain of its budget
+-- what each other partition may cost one that waits, the part of a tick period that need not remain of its budget: "three quarters of a tick
+-- period for each other partition under 1, and half under 2"
 unfoldable pub loss : Settings → ℕ
-loss c = 3 * C c / 4
+loss c = cond (eqb (c .edition) 2) (C c / 2) (3 * C c / 4)
 
--- "Bound: p's budget less 3 × C / 4 for each other partition, a signed number"
+-- "Bound: p's budget less 3 × C / 4 for each other partition, a signed number"; less C / 2 for each in edition 2
 unfoldable pub bound : Settings → ℕ → ℤ
 bound c p = pos (budget c p) -ℤ pos ((c .count - 1) * loss c)
 
