@@ -10,7 +10,7 @@ use lib.Signed.{_≤ℤ_}
 use lib.Dec.{eqb}
 use Rattle.lists.specs.Lists.{below, any, keep, member}
 use Rattle.units.specs.Units.{elapsedOf}
-use Rattle.sheet.specs.Settings.{W, C, budget}
+use Rattle.sheet.specs.Settings.{W, C, budget, need, Limits}
 use Rattle.sheet.specs.declared.Settings.{Settings}
 use Rattle.model.specs.State.{thread, queueOf, allows, State}
 use Rattle.model.specs.Policy.{idleMode}
@@ -127,3 +127,41 @@ Served s es =
 abbrev pub Demand3 : Type 0
 Demand3 =
     (v : Saved) → Lengths (v .state) → refusedState (v .state) (v .history) ≡ 0 → (events : List (List ℕ)) → Served (v .state) (run v events)
+
+-- ---- the editions
+
+-- what a partition may lose to each other one, in whole cycles: all of a tick period but what must remain of a budget
+pub record Lost (c : Settings) : Type 0 where
+  pub rest : loss c + need c ≡ C c
+  pub under-1 : c .edition ≡ 1 → 4 * loss c ≡ 3 * C c
+  pub under-2 : c .edition ≡ 2 → 2 * loss c ≡ C c
+
+-- "Demand 3 loses three quarters of a tick period for each other partition under 1, and half under 2": of settings within their limits exactly so
+abbrev pub LossByEdition : Type 0
+LossByEdition = (c : Settings) → Limits c → Lost c
+
+-- a list of events, from a state that the event door takes, with a stretch in which a partition waits beside others as demand 3 asks, and is charged
+-- its bound, which is above 0, and not a cycle more
+pub record Tight (edition : ℕ) : Type 0 where
+  pub start : Saved
+  pub lengths : Lengths (start .state)
+  pub taken : refusedState (start .state) (start .history) ≡ 0
+  pub by-edition : start .state .settings .edition ≡ edition
+  pub others : 1 < start .state .settings .count
+  pub events : List (List ℕ)
+  pub before : List Entry
+  pub opening : Entry
+  pub within : List Entry
+  pub closing : Entry
+  pub later : List Entry
+  pub parts : run start events ≡ before ++ (opening ∷ (within ++ (closing ∷ later)))
+  pub stretch : Stretch (start .state .settings) opening within closing
+  pub partition : ℕ
+  pub inside : partition < start .state .settings .count
+  pub waiting : (n : ℕ) → n ≤ length within → waits (start .state) (before ++ (opening ∷ take n within)) partition ≡ true
+  pub some : 0 < chargedTo partition (lastOf opening) (within ++ (closing ∷ []))
+  pub exact : pos (chargedTo partition (lastOf opening) (within ++ (closing ∷ []))) ≡ bound (start .state .settings) partition
+
+-- so in neither edition can less be lost
+abbrev pub BoundReached : Type 0
+BoundReached = Tight 1 × Tight 2
