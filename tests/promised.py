@@ -1,7 +1,8 @@
 #!/usr/bin/env python3
 """Every promise stands in three places: as a statement in specs/, as a field of the record that proves them all, and in docs/PROOFS.md.
 
-A promise is a definition in specs/ of a type without parameters, `abbrev pub NAME : Type 0`. The record is Promised in crates/sessions/specs, of
+A promise is a definition in specs/ of a type without parameters, `abbrev pub NAME : Type 0`, or `Type 1` where it is of
+every scheduler. The record is Promised in crates/sessions/specs, of
 which the prover wants a value. Without this test a statement could be left out of the record, and lose its proof, or be told nowhere.
 """
 import re
@@ -13,7 +14,7 @@ from edits import ROOT
 def main():
     stated = set()
     for path in ROOT.glob("crates/*/specs/*.antt"):
-        stated |= set(re.findall(r"^abbrev pub (\w+) : Type 0$", path.read_text(), re.M))
+        stated |= set(re.findall(r"^abbrev pub (\w+) : Type [01]$", path.read_text(), re.M))
     record = (ROOT / "crates/sessions/specs/Promised.antt").read_text()
     proved = set(re.findall(r"^  pub [\w-]+ : \w+\.(\w+)$", record, re.M))
     told = set(re.findall(r"`(?:\w+\.)?(\w+)`", (ROOT / "docs/PROOFS.md").read_text()))

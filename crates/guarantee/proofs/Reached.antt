@@ -1,6 +1,5 @@
 -- The hypotheses of the promises of time slices can be met, and four ticks are reached: W 4, C 1000, one partition, two round-robin threads of
 -- priority 10. Thread 0 runs until the fourth tick, thread 1 until the eighth.
-use Prim.Native.Nat.{ℕ}
 use mathlib.Core.Path.{_≡_, refl}
 use mathlib.Core.Bool.{true}
 use mathlib.Core.List.{List, [], _∷_}

@@ -6,12 +6,15 @@ use Rattle.invariants.proofs.Soundness as Soundness
 use Rattle.invariants.proofs.Once as Once
 use Rattle.invariants.proofs.Choices as Choices
 use Rattle.invariants.proofs.Ties as Ties
+use Rattle.invariants.proofs.Editions as Editions
 use Rattle.guarantee.proofs.Totals as Totals
 use Rattle.guarantee.proofs.Apart as Apart
 use Rattle.guarantee.proofs.Account as Account
 use Rattle.guarantee.proofs.Refused as Refused
 use Rattle.guarantee.proofs.Known as Known
+use Rattle.guarantee.proofs.Guarantee as Guarantee
 use Rattle.guarantee.proofs.Demand3 as Demand3
+use Rattle.guarantee.proofs.Tight as Tight
 use Rattle.guarantee.proofs.Turns as Turns
 use Rattle.guarantee.proofs.Places as Places
 use Rattle.sessions.specs.Promised.{Promised}
@@ -31,6 +34,7 @@ promised = record {
   budgets-fit = Units.budgets-fit;
   remaining = Units.remaining-exact;
   has-budget = Units.has-budget;
+  needs-whole = Units.needs-whole;
   shares = Within.shares-fit;
   read-written = RoundTrip.read-is-written;
   written-read = RoundTrip.written-is-read;
@@ -50,6 +54,7 @@ promised = record {
   budget-first = Choices.budget-first;
   repeats = Ties.repeats;
   switches = Ties.switches;
+  stated-or-not = Editions.stated-or-not;
   totals-from = Totals.totals-from;
   held-and-charged = Apart.held-and-charged;
   totals = Totals.totals;
@@ -58,6 +63,9 @@ promised = record {
   refused = Refused.refused-count-for-nothing;
   ready = Known.ready-is-queued;
   demand3 = Demand3.demand3;
+  proved-once = Guarantee.proved-once;
+  loss = Demand3.loss-by-edition;
+  bound-reached = Tight.bound-reached;
   slice-ends = Turns.slice-ends;
   takes-turns = Turns.takes-turns;
   places = Places.places;

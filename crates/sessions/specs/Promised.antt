@@ -4,8 +4,10 @@ use Rattle.sheet.specs.Settings as Settings
 use Rattle.sheet.specs.Sheet as Sheet
 use Rattle.invariants.specs.Promises as Invariants
 use Rattle.invariants.specs.Once as Once
+use Rattle.invariants.specs.Editions as Editions
 use Rattle.guarantee.specs.Account as Account
 use Rattle.guarantee.specs.Demand3 as Demand3
+use Rattle.guarantee.specs.Scheduler as Scheduler
 use Rattle.guarantee.specs.Ledger as Ledger
 use Rattle.guarantee.specs.Turns as Turns
 use Rattle.guarantee.specs.Places as Places
@@ -17,13 +19,14 @@ use Rattle.sessions.specs.Switches as DoorSwitches
 use Rattle.sessions.specs.Uses as Uses
 use Rattle.sessions.specs.FromC as FromC
 
-pub record Promised : Type 0 where
+pub record Promised : Type 1 where
   -- numbers and sheets
   pub elapsed : Units.ElapsedIsTrue
   pub budgets-whole : Units.BudgetsAreWhole
   pub budgets-fit : Units.BudgetsFit
   pub remaining : Units.RemainingIsExact
   pub has-budget : Units.HasBudget
+  pub needs-whole : Units.NeedsAreWhole
   pub shares : Settings.SharesFit
   pub read-written : Sheet.ReadIsWritten
   pub written-read : Sheet.WrittenIsRead
@@ -44,6 +47,7 @@ pub record Promised : Type 0 where
   pub budget-first : Invariants.BudgetFirst
   pub repeats : Invariants.Repeats
   pub switches : Invariants.Switches
+  pub stated-or-not : Editions.StatedOrNot
   -- lists of events, on the definitions
   pub totals-from : Ledger.TotalsFrom
   pub held-and-charged : Ledger.HeldAndCharged
@@ -53,6 +57,9 @@ pub record Promised : Type 0 where
   pub refused : Ledger.RefusedCountForNothing
   pub ready : Ledger.ReadyIsQueued
   pub demand3 : Demand3.Demand3
+  pub proved-once : Scheduler.ProvedOnce
+  pub loss : Demand3.LossByEdition
+  pub bound-reached : Demand3.BoundReached
   pub slice-ends : Turns.SliceEnds
   pub takes-turns : Turns.TakesTurns
   pub places : Places.Places
