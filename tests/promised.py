@@ -1,9 +1,9 @@
 #!/usr/bin/env python3
 """Every promise stands in three places: as a statement in specs/, as a field of the record that proves them all, and in docs/PROOFS.md.
 
-A promise is a definition in specs/ of a type without parameters, `abbrev pub NAME : Type 0`, or `Type 1` where it is of
-every scheduler. The record is Promised in crates/sessions/specs, of
-which the prover wants a value. Without this test a statement could be left out of the record, and lose its proof, or be told nowhere.
+A promise is a definition in specs/ of a type without parameters, `abbrev pub NAME : Type 0`, or `Type 1` where it is about every scheduler. The
+record is Promised in crates/sessions/specs, of which the prover wants a value. Without this test a statement could be left out of the record, and
+lose its proof, or be told nowhere.
 """
 import re
 import sys
