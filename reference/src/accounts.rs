@@ -26,11 +26,12 @@ pub struct Accounts {
     budget: Row,
     /// Sum over the window of what was charged.
     used: Row,
-    /// A quarter of a tick: the least remaining that counts as budget.
-    quarter: Cycles,
+    /// The least remaining that counts as budget: a quarter of a tick, or half
+    /// of one.
+    need: Cycles,
     /// Bit p: p's budget is above 0.
     funded: u16,
-    /// Bit p: p's remaining is at least the quarter. Kept up with `used`.
+    /// Bit p: p's remaining is at least that. Kept up with `used`.
     solvent: u16,
     /// The slot now charged.
     now: usize,
@@ -43,7 +44,7 @@ impl Accounts {
         let mut accounts = Accounts {
             budget: Row::default(),
             used: Row::default(),
-            quarter: Cycles(settings.tick.0 / 4),
+            need: settings.need(),
             funded: 0,
             solvent: 0,
             now: 0,
@@ -91,6 +92,15 @@ impl Accounts {
         }
     }
 
+    /// The same accounts where so much must remain, which is above 0.
+    pub fn with_need(mut self, need: Cycles) -> Accounts {
+        self.need = need;
+        for p in 0..PARTITIONS {
+            self.weigh(p);
+        }
+        self
+    }
+
     /// Compares two partitions by the fraction used: greater is better, that
     /// is, the smaller fraction. One without budget is worse than every other
     /// and equal to another one without.
@@ -111,7 +121,7 @@ impl Accounts {
         self.funded
     }
 
-    /// Bit p: p has budget, that is, at least a quarter tick remains.
+    /// Bit p: p has budget, that is, at least what the edition needs remains.
     pub fn solvent(&self) -> u16 {
         self.solvent
     }
@@ -153,12 +163,13 @@ impl Accounts {
         }
     }
 
-    /// Works out p's bit in `solvent`: used + C/4 is at most the budget. The
-    /// sum is below 2^32, because used is at most 799,920,000. A place past
-    /// the count has budget 0 and so never gets its bit.
+    /// Works out p's bit in `solvent`: used and what must remain are together
+    /// at most the budget. The sum is below 2^32, because used is at most
+    /// 799,920,000. A place past the count has budget 0 and so never gets its
+    /// bit.
     #[inline]
     fn weigh(&mut self, p: usize) {
-        let solvent = self.used[p].0 + self.quarter.0 <= self.budget[p].0;
+        let solvent = self.used[p].0 + self.need.0 <= self.budget[p].0;
         self.solvent = self.solvent & !(1 << p) | u16::from(solvent) << p;
     }
 }

@@ -9,7 +9,7 @@ use std::process::ExitCode;
 /// Whole records read at a time, at most.
 const CHUNK: usize = 4096 * RECORD;
 /// Longest right sheet, and one byte to know a longer one by.
-const SHEET: u64 = 20 * RECORD as u64 + 1;
+const SHEET: u64 = 21 * RECORD as u64 + 1;
 
 fn main() -> ExitCode {
     match work(&mut io::stdin().lock(), &mut io::stdout().lock()) {

@@ -1,5 +1,5 @@
 //! A partition scheduler for one core, written from document 01, and requests
-//! (i) to (iii) of document 02, alone.
+//! (i) to (iv) of document 02, alone.
 //!
 //! A share sheet starts it, event records drive it, and each event gives one
 //! line: refusal, mode, partition, thread.

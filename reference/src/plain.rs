@@ -219,8 +219,13 @@ impl Plain {
             .unwrap()
     }
 
+    /// At least a quarter of a tick remains, or half of one in edition 2.
     fn has_budget(&self, p: usize) -> bool {
-        4 * self.remaining(p) >= self.c as i64
+        let times = match self.settings.edition {
+            2 => 2,
+            _ => 4,
+        };
+        times * self.remaining(p) >= self.c as i64
     }
 
     /// Greater is the better fraction.

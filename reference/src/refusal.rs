@@ -1,7 +1,7 @@
 //! The numbers that come back when something can't be done.
 
-/// The sheet is not 5 to 20 whole records (or the settings to be written
-/// have not 1 to 16 partitions).
+/// The sheet is not 5 to 20 whole records, or 6 to 21 where the fifth begins
+/// with E (or the settings to be written have not 1 to 16 partitions).
 pub const RECORD_COUNT: u8 = 1;
 /// A letter, the order, a digit, a space, a line feed or a two-digit number
 /// is wrong.
@@ -10,8 +10,8 @@ pub const FORM: u8 = 2;
 pub const WINDOW: u8 = 3;
 /// The cycles a tick are out of their limits.
 pub const TICK: u8 = 4;
-/// The policy or the core is out of its limits.
-pub const POLICY_OR_CORE: u8 = 5;
+/// The policy, the core or the edition is out of its limits.
+pub const POLICY_CORE_OR_EDITION: u8 = 5;
 /// A share is above 100, or the shares don't add up to 100.
 pub const SHARES: u8 = 6;
 /// The lent buffer is too short.

@@ -142,6 +142,19 @@ impl Scheduler {
         self.best().1
     }
 
+    /// The decision that the rules would give now if so much, and not what the
+    /// edition says, had to remain of a budget.
+    pub fn decision_with(&self, need: Cycles) -> Line {
+        let mut other = self.clone();
+        other.accounts = other.accounts.with_need(need);
+        other.decision()
+    }
+
+    /// Bit p: p competes.
+    pub fn competing(&self) -> u16 {
+        self.threads.competing()
+    }
+
     /// Bit t: thread t exists.
     pub fn existing(&self) -> u64 {
         self.threads.existing()

@@ -3,9 +3,10 @@
 use crate::counts::{Cycles, Percent, Ticks};
 use crate::{refusal, PARTITIONS, RECORD};
 
-/// Letters of the records before the shares, in their order.
-const HEAD: [u8; 4] = *b"WCPM";
-const LEAST_RECORDS: usize = HEAD.len() + 1;
+/// Letters of the records before the shares, in their order. The last one is
+/// there only where the sheet states its edition.
+const HEAD: [u8; 5] = *b"WCPME";
+const EDITION: usize = 4;
 const MOST_RECORDS: usize = HEAD.len() + PARTITIONS;
 
 /// What a sheet says. The fields are plain, so that a caller can also fill
@@ -20,6 +21,11 @@ pub struct Settings {
     pub policy: u32,
     /// M: the core this scheduler decides for.
     pub core: u32,
+    /// E, the edition of the budget test: 1 where a quarter of a tick must
+    /// remain, 2 where a half must. It is 1 where the sheet doesn't state it.
+    pub edition: u32,
+    /// Whether the sheet states it: 0 or 1.
+    pub edition_stated: u32,
     /// How many partitions there are.
     pub partitions: usize,
     /// Their shares. Those past the count are not looked at when writing
@@ -27,19 +33,31 @@ pub struct Settings {
     pub shares: [Percent; PARTITIONS],
 }
 
-/// Reads a sheet. The form of all records is tested before any limit.
+impl Settings {
+    /// The cycles that must remain of a budget: half a tick in edition 2, else
+    /// a quarter. A tick is a multiple of 100, so both are whole.
+    pub fn need(&self) -> Cycles {
+        let parts = if self.edition == 2 { 2 } else { 4 };
+        Cycles(self.tick.0 / parts)
+    }
+}
+
+/// Reads a sheet. One byte, the fifth record's first, says how many records
+/// there may be; then the form of all of them is tested before any limit.
 pub fn read_sheet(sheet: &[u8]) -> Result<Settings, u8> {
+    let stated = sheet.get(EDITION * RECORD) == Some(&HEAD[EDITION]);
+    let head = head(stated);
     let count = sheet.len() / RECORD;
-    if sheet.len() % RECORD != 0 || !(LEAST_RECORDS..=MOST_RECORDS).contains(&count) {
+    if sheet.len() % RECORD != 0 || !(head.len() + 1..=head.len() + PARTITIONS).contains(&count) {
         return Err(refusal::RECORD_COUNT);
     }
     let mut numbers = [0; MOST_RECORDS];
     for (place, record) in sheet.chunks_exact(RECORD).enumerate() {
-        let (letter, number) = label(place);
+        let (letter, number) = label(head, place);
         numbers[place] = read_record(record, letter, number).ok_or(refusal::FORM)?;
     }
     let mut shares = [Percent(0); PARTITIONS];
-    for (share, &number) in shares.iter_mut().zip(&numbers[HEAD.len()..]) {
+    for (share, &number) in shares.iter_mut().zip(&numbers[head.len()..]) {
         *share = Percent(number);
     }
     let settings = Settings {
@@ -47,30 +65,35 @@ pub fn read_sheet(sheet: &[u8]) -> Result<Settings, u8> {
         tick: Cycles(numbers[1]),
         policy: numbers[2],
         core: numbers[3],
-        partitions: count - HEAD.len(),
+        edition: if stated { numbers[EDITION] } else { 1 },
+        edition_stated: stated.into(),
+        partitions: count - head.len(),
         shares,
     };
     within_limits(&settings)?;
     Ok(settings)
 }
 
-/// Writes a sheet and answers its length. Bytes after it, and the whole
-/// buffer after a refusal, stay as they were.
+/// Writes a sheet and answers its length. The edition is written where it is
+/// stated. Bytes after the sheet, and the whole buffer after a refusal, stay as
+/// they were.
 pub fn write_sheet(settings: &Settings, out: &mut [u8]) -> Result<usize, u8> {
     if !(1..=PARTITIONS).contains(&settings.partitions) {
         return Err(refusal::RECORD_COUNT);
     }
     within_limits(settings)?;
-    let count = HEAD.len() + settings.partitions;
+    let head = head(settings.edition_stated == 1);
+    let count = head.len() + settings.partitions;
     let out = out.get_mut(..count * RECORD).ok_or(refusal::BUFFER)?;
     for (place, record) in out.chunks_exact_mut(RECORD).enumerate() {
-        let (letter, number) = label(place);
-        let value = match place {
-            0 => settings.window.0,
-            1 => settings.tick.0,
-            2 => settings.policy,
-            3 => settings.core,
-            _ => settings.shares[place - HEAD.len()].0,
+        let (letter, number) = label(head, place);
+        let value = match letter {
+            b'W' => settings.window.0,
+            b'C' => settings.tick.0,
+            b'P' => settings.policy,
+            b'M' => settings.core,
+            b'E' => settings.edition,
+            _ => settings.shares[usize::from(number)].0,
         };
         write_record(record, letter, number, value);
     }
@@ -85,6 +108,8 @@ fn within_limits(settings: &Settings) -> Result<(), u8> {
         tick,
         policy,
         core,
+        edition,
+        edition_stated,
         ..
     } = *settings;
     if !(2..=400).contains(&window.0) {
@@ -93,8 +118,10 @@ fn within_limits(settings: &Settings) -> Result<(), u8> {
     if tick.0 % 100 != 0 || !(100..=999_900).contains(&tick.0) {
         return Err(refusal::TICK);
     }
-    if policy > 1 || core > 7 {
-        return Err(refusal::POLICY_OR_CORE);
+    // Not stated, the edition is 1 and no other.
+    let is_edition = matches!((edition_stated, edition), (0, 1) | (1, 1 | 2));
+    if policy > 1 || core > 7 || !is_edition {
+        return Err(refusal::POLICY_CORE_OR_EDITION);
     }
     let mut sum = 0;
     for share in &settings.shares[..settings.partitions] {
@@ -110,11 +137,22 @@ fn within_limits(settings: &Settings) -> Result<(), u8> {
     }
 }
 
-/// The letter and the two-digit number that belong at a place.
-fn label(place: usize) -> (u8, u8) {
-    match HEAD.get(place) {
+/// The letters before the shares of a sheet that states its edition or does
+/// not.
+fn head(stated: bool) -> &'static [u8] {
+    if stated {
+        &HEAD
+    } else {
+        &HEAD[..EDITION]
+    }
+}
+
+/// The letter and the two-digit number that belong at a place, after such a
+/// head.
+fn label(head: &[u8], place: usize) -> (u8, u8) {
+    match head.get(place) {
         Some(&letter) => (letter, 0),
-        None => (b'S', (place - HEAD.len()) as u8),
+        None => (b'S', (place - head.len()) as u8),
     }
 }
 

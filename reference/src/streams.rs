@@ -6,7 +6,9 @@
 //! events are accepted, and many charges are aimed at the exact places where
 //! a decision tips over.
 
+mod editions;
 mod maker;
+mod misstated;
 mod moves;
 mod random;
 mod report;
@@ -21,6 +23,7 @@ use crate::line::Line;
 use crate::scheduler::Scheduler;
 use crate::RECORD;
 use maker::Maker;
+use misstated::misstated_sheet;
 use sheets::{refused_sheet, right_sheet};
 
 /// A sheet and the events for it, as the desk program would get them.
@@ -45,6 +48,10 @@ pub fn stream(seed: u64) -> Case {
             let mut sheet = right_sheet(&mut random);
             let place = random.below(sheet.len() as u32) as usize;
             sheet[place] = random.byte();
+            live_case(random, sheet)
+        }
+        11..=16 => {
+            let sheet = misstated_sheet(&mut random);
             live_case(random, sheet)
         }
         _ => {

@@ -22,6 +22,8 @@ fn settings(w: u32, c: u32, policy: u32, core: u32, shares: &[u32]) -> Settings 
         tick,
         policy,
         core,
+        edition: 1,
+        edition_stated: 0,
         partitions,
         shares: all,
     }

@@ -746,8 +746,9 @@ impl Maker {
     }
 
     /// An elapsed after which the running partition stands at or next to a
-    /// place where a decision tips over: the quarter, zero, or the fraction
-    /// of another partition.
+    /// place where a decision tips over: what must remain in this edition of
+    /// the budget test or in the other one, zero, or the fraction of another
+    /// partition.
     fn aimed(&mut self, is_tick: bool) -> Option<u32> {
         let p = self.shadow.charged()?;
         let after = |shadow: &Scheduler, p: usize| {
@@ -758,11 +759,15 @@ impl Maker {
             )
         };
         let (budget, used) = after(&self.shadow, p);
-        let quarter = i64::from(self.shadow.settings().tick.0 / 4);
+        let [need, quarter] = [
+            self.shadow.settings().need().0,
+            self.shadow.settings().tick.0 / 4,
+        ];
+        let needs = [need, need, quarter, 2 * quarter].map(i64::from);
         for _ in 0..4 {
-            let target = match self.random.below(4) {
-                0 => budget - quarter,
-                1 => budget,
+            let target = match self.random.below(5) {
+                0..=1 => budget - self.random.pick(&needs),
+                2 => budget,
                 _ => {
                     let q = self.random.below(self.shadow.settings().partitions as u32) as usize;
                     let (other_budget, other_used) = after(&self.shadow, q);

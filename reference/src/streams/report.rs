@@ -1,5 +1,6 @@
 //! Showing a case and counting what was reached.
 
+use super::editions::Editions;
 use super::maker::{BLOCK, CREATE, END, READY, RESUME, SET, TICK};
 use super::moves::Moves;
 use super::slices::Slices;
@@ -55,8 +56,8 @@ pub fn write_event(f: &mut impl fmt::Write, record: &[u8]) -> fmt::Result {
     }
 }
 
-/// How often each refusal, each mode and each thing about slices, places and
-/// ties was reached.
+/// How often each refusal, each mode and each thing about slices, places, ties
+/// and editions was reached.
 #[derive(Clone, Debug, Default, PartialEq, Eq)]
 pub struct Reach {
     pub cases: u64,
@@ -70,6 +71,7 @@ pub struct Reach {
     slices: Slices,
     moves: Moves,
     ties: Ties,
+    editions: Editions,
 }
 
 impl Reach {
@@ -77,6 +79,7 @@ impl Reach {
     pub fn count(&mut self, case: &Case, lines: &[u8]) {
         self.cases += 1;
         self.moves.new_case();
+        self.editions.sheet(&case.sheet);
         let mut met = Scheduler::start(&case.sheet).ok();
         for (place, line) in lines.chunks_exact(RECORD).enumerate() {
             self.lines += 1;
@@ -99,6 +102,7 @@ impl Reach {
                 if refusal == 0 {
                     self.moves.count(met, event, &left);
                     self.ties.count(met, event, &left);
+                    self.editions.count(event, &left);
                 }
                 *met = left;
             }
@@ -106,7 +110,7 @@ impl Reach {
     }
 
     /// Was every refusal a stream can give, every mode and everything about
-    /// slices, places and ties reached?
+    /// slices, places, ties and editions reached?
     pub fn complete(&self) -> bool {
         let refusals = (0..15).filter(|number| !(7..=8).contains(number));
         refusals
@@ -116,6 +120,7 @@ impl Reach {
             && self.slices.complete()
             && self.moves.complete()
             && self.ties.complete()
+            && self.editions.complete()
     }
 }
 
@@ -132,6 +137,10 @@ impl fmt::Display for Reach {
         for (kind, count) in self.kinds.iter().enumerate().skip(1) {
             writeln!(f, "accepted kind {kind}: {count}")?;
         }
-        write!(f, "{}{}{}", self.slices, self.moves, self.ties)
+        write!(
+            f,
+            "{}{}{}{}",
+            self.slices, self.moves, self.ties, self.editions
+        )
     }
 }

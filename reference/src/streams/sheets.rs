@@ -6,12 +6,14 @@ use crate::sheet::{read_sheet, Settings};
 use crate::{refusal, PARTITIONS, RECORD};
 
 /// The text of a sheet whose numbers may be anything below a million.
-fn sheet_text(settings: &Settings) -> Vec<u8> {
+pub fn sheet_text(settings: &Settings) -> Vec<u8> {
     let Settings {
         window,
         tick,
         policy,
         core,
+        edition,
+        edition_stated,
         partitions,
         shares,
     } = settings;
@@ -19,6 +21,9 @@ fn sheet_text(settings: &Settings) -> Vec<u8> {
         "W 00 {:06}\nC 00 {:06}\nP 00 {:06}\nM 00 {:06}\n",
         window.0, tick.0, policy, core
     );
+    if *edition_stated == 1 {
+        text.push_str(&format!("E 00 {edition:06}\n"));
+    }
     for (p, share) in shares[..*partitions].iter().enumerate() {
         text.push_str(&format!("S {:02} {:06}\n", p, share.0));
     }
@@ -29,7 +34,7 @@ pub fn right_sheet(random: &mut Random) -> Vec<u8> {
     sheet_text(&right_settings(random))
 }
 
-fn right_settings(random: &mut Random) -> Settings {
+pub fn right_settings(random: &mut Random) -> Settings {
     // Now and then both limits at once: the largest numbers there are.
     let largest = random.percent(2);
     let window = match random.below(100) {
@@ -56,6 +61,7 @@ fn right_settings(random: &mut Random) -> Settings {
         70..=89 => random.range(6, 15),
         _ => 16,
     } as usize;
+    let (edition, edition_stated) = random.pick(&[(1, 0), (1, 0), (1, 1), (2, 1), (2, 1)]);
     Settings {
         window: Ticks(window),
         tick: Cycles(hundreds * 100),
@@ -65,6 +71,8 @@ fn right_settings(random: &mut Random) -> Settings {
         } else {
             random.below(8)
         },
+        edition,
+        edition_stated,
         partitions,
         shares: right_shares(random, partitions),
     }
@@ -155,7 +163,7 @@ pub fn refused_sheet(random: &mut Random, refusal: u8) -> Vec<u8> {
     sheet
 }
 
-fn spoil_shares(random: &mut Random, settings: &mut Settings) {
+pub fn spoil_shares(random: &mut Random, settings: &mut Settings) {
     let own = &mut settings.shares[..settings.partitions];
     let p = random.below(own.len() as u32) as usize;
     match random.below(4) {
@@ -173,6 +181,7 @@ fn spoil_shares(random: &mut Random, settings: &mut Settings) {
 }
 
 fn spoil_form(random: &mut Random, sheet: &mut Vec<u8>) {
+    let right = sheet.clone();
     let records = sheet.len() / RECORD;
     let record = random.below(records as u32) as usize;
     let start = record * RECORD;
@@ -180,7 +189,7 @@ fn spoil_form(random: &mut Random, sheet: &mut Vec<u8>) {
         // A letter.
         0 => {
             sheet[start] = random
-                .pick(b"wcpmsXWCPM \n0")
+                .pick(b"wcpmesXWCPME \n0")
                 .wrapping_add(sheet[start] & 0x80)
         }
         // A space.
@@ -216,8 +225,10 @@ fn spoil_form(random: &mut Random, sheet: &mut Vec<u8>) {
             }
         }
     }
-    // The pick may have hit the byte that was there.
+    // The pick may have hit the byte that was there, or there may be too many or
+    // too few records for what the fifth begins with now.
     if read_sheet(sheet) != Err(refusal::FORM) {
+        *sheet = right;
         sheet[0] = b'Z';
     }
 }
@@ -236,7 +247,7 @@ fn spoil_length(random: &mut Random, sheet: &mut Vec<u8>) {
         3 => sheet.push(random.pick(b"\n\r\x00 ")),
         // Too many records.
         _ => {
-            let many = random.range(21, 40) as usize;
+            let many = random.range(22, 40) as usize;
             let mut p = sheet.len() / RECORD - 4;
             while sheet.len() < many * RECORD {
                 sheet.extend_from_slice(format!("S {p:02} 000000\n").as_bytes());

@@ -7,7 +7,7 @@ use crate::scheduler::Scheduler;
 use std::fmt;
 
 /// The orders that partitions are compared in.
-const ORDERS: [&str; 4] = ["free time", "free time by ratio", "underload", "at limit"];
+pub const ORDERS: [&str; 4] = ["free time", "free time by ratio", "underload", "at limit"];
 
 /// How often each thing was reached. The favoured partition is that of the
 /// thread that ran until the event.
@@ -88,7 +88,7 @@ impl Ties {
 }
 
 /// The order that the last decision was made in.
-fn order(left: &Scheduler) -> usize {
+pub fn order(left: &Scheduler) -> usize {
     match (left.decision().mode, left.settings().policy) {
         (1, 0) => 0,
         (1, _) => 1,
