@@ -3,16 +3,26 @@
  *     embed FILE
  *
  * does the worked run of document 01, on the way saves it to FILE and goes on from there, and damages FILE, which is then refused. Then two threads
- * of one priority take turns, each is set to another priority and back, and the file with a slice that no thread can have is refused too. Each answer
- * is printed as a line of the desk program: refusal, mode, partition, thread. */
+ * of one priority take turns, each is set to another priority and back, and the file with a slice that no thread can have is refused too. At last a
+ * thread runs until 400 cycles remain of its budget, under the sheet of a newer kit, where that is enough, and under that of an older one, where half
+ * a tick must remain; and the file that has the older one's edition without stating it is refused. Each answer is printed as a line of the desk
+ * program: refusal, mode, partition, thread. */
 #include "saplingloft.h"
 
 #include <stdio.h>
+#include <string.h>
 
 static const char sheet[] = "W 00 000004\n"
                             "C 00 001000\n"
                             "P 00 000000\n"
                             "M 00 000000\n"
+                            "S 00 000050\n"
+                            "S 01 000050\n";
+static const char older[] = "W 00 000004\n"
+                            "C 00 001000\n"
+                            "P 00 000000\n"
+                            "M 00 000000\n"
+                            "E 00 000002\n" /* the edition: half a tick must remain */
                             "S 00 000050\n"
                             "S 01 000050\n";
 
@@ -26,12 +36,12 @@ struct saved {
     uint32_t history[HISTORY];
 };
 
-/* A fresh start. */
-static enum saplingloft_refusal start(struct saved *kept)
+/* A fresh start from the text of a sheet. */
+static enum saplingloft_refusal start(struct saved *kept, const char *text)
 {
     kept->version = SAPLINGLOFT_VERSION;
     kept->size = sizeof kept->state;
-    return saplingloft_start(&kept->state, kept->history, HISTORY, (const uint8_t *)sheet, sizeof sheet - 1);
+    return saplingloft_start(&kept->state, kept->history, HISTORY, (const uint8_t *)text, strlen(text));
 }
 
 /* Something happened: the answer says which thread runs from now on. */
@@ -105,6 +115,11 @@ static const struct saplingloft_record priorities[] = {
     { SAPLINGLOFT_KIND_SET_PRIORITY, 3, 0, 5, 4300, 0, 0 },
     { SAPLINGLOFT_KIND_SET_PRIORITY, 3, 0, 10, 4400, 0, 0 },
 };
+/* A tick that leaves 400 cycles of partition 1's budget, after the worked run's start. */
+static const struct saplingloft_record remain[] = {
+    { SAPLINGLOFT_KIND_TICK, 0, 0, 0, 1000, 0, 0 },
+    { SAPLINGLOFT_KIND_TICK, 0, 0, 0, 1600, 0, 0 },
+};
 #define COUNT(array) (sizeof(array) / sizeof *(array))
 
 static void tell_all(struct saved *kept, const struct saplingloft_record *records, size_t count)
@@ -123,17 +138,26 @@ static int refused(const struct saved *kept, const char *name)
 int main(int count, char **words)
 {
     struct saved kept, restored;
-    if (count != 2 || start(&kept) != SAPLINGLOFT_ACCEPTED)
+    if (count != 2 || start(&kept, sheet) != SAPLINGLOFT_ACCEPTED)
         return 1;
     tell_all(&kept, before, COUNT(before));
     if (!save(&kept, words[1]) || !restore(&restored, words[1]))
         return 1;
     tell_all(&restored, after, COUNT(after));
     restored.state.used[0] += 1; /* as a bad file might have it */
-    if (!refused(&restored, words[1]) || start(&kept) != SAPLINGLOFT_ACCEPTED)
+    if (!refused(&restored, words[1]) || start(&kept, sheet) != SAPLINGLOFT_ACCEPTED)
         return 1;
     tell_all(&kept, turns, COUNT(turns));
     tell_all(&kept, priorities, COUNT(priorities));
     kept.state.slices[3] = SAPLINGLOFT_SLICE + 1;
+    if (!refused(&kept, words[1]))
+        return 1;
+    for (int i = 0; i < 2; i++) {
+        if (start(&kept, i == 0 ? sheet : older) != SAPLINGLOFT_ACCEPTED)
+            return 1;
+        tell_all(&kept, before, 4); /* two threads, ready */
+        tell_all(&kept, remain, COUNT(remain));
+    }
+    kept.state.settings.edition_stated = 0;
     return !refused(&kept, words[1]);
 }

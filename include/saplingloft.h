@@ -17,7 +17,7 @@
  * Both together can be written to a file and read back later. Beside them a file has to hold SAPLINGLOFT_VERSION and the state's size, because the
  * state itself tells neither; examples/embed.c shows it. Numbers lie in it as the processor has them, so a file is for processors of one byte order.
  *
- * Sizes: the state has 680 bytes, the history 4 * count * window, which is at most 25,600. Of code the archive for x86-64 has 24 KB, 10 KB of them for
+ * Sizes: the state has 688 bytes, the history 4 * count * window, which is at most 25,600. Of code the archive for x86-64 has 24 KB, 10 KB of them for
  * saplingloft_run alone, which a program that makes no runs does not link. A call there takes at most SAPLINGLOFT_STACK bytes of stack, as
  * tools/stack.c measures them; `make board` prints these figures for other processors.
  *
@@ -32,15 +32,15 @@
 #include <stdint.h>
 
 /* Of the state and of the calls. Another number means that a saved state of this one cannot be used. Version 2 has time slices: `policies` and
- * `slices` in the state and in the library's own functions, and `policy` at the end of struct saplingloft_record; 0 is what version 1 did. A state of
- * version 2 is taken as it stands, also one that was saved before set priority moved threads, or before a partition was favoured in ties. */
-#define SAPLINGLOFT_VERSION 2
+ * `slices` in the state and in the library's own functions, and `policy` at the end of struct saplingloft_record; 0 is what version 1 did. Version 3
+ * has the editions of the budget test: `edition` and `edition_stated` in the settings, in front of `count`; 1, not stated, is what version 2 did. */
+#define SAPLINGLOFT_VERSION 3
 
 enum {
     SAPLINGLOFT_PARTITIONS = 16,
     SAPLINGLOFT_THREADS = 64,
     SAPLINGLOFT_RECORD = 12,    /* bytes of a sheet's record, of an event's record and of a line */
-    SAPLINGLOFT_SHEET = 240,    /* bytes of the longest sheet */
+    SAPLINGLOFT_SHEET = 252,    /* bytes of the longest sheet */
     SAPLINGLOFT_HISTORY = 6400, /* numbers of history that suffice for every sheet: 16 partitions, a window of 400 ticks */
     SAPLINGLOFT_STACK = 1536,   /* bytes of stack that each call was seen to do with, on x86-64 */
     SAPLINGLOFT_SLICE = 4,      /* ticks of a round-robin thread's full slice */
@@ -54,7 +54,7 @@ enum saplingloft_refusal {
     SAPLINGLOFT_REFUSED_FORM = 2,
     SAPLINGLOFT_REFUSED_WINDOW = 3,
     SAPLINGLOFT_REFUSED_TICK = 4,
-    SAPLINGLOFT_REFUSED_POLICY_OR_CORE = 5,
+    SAPLINGLOFT_REFUSED_POLICY_CORE_OR_EDITION = 5,
     SAPLINGLOFT_REFUSED_SHARES = 6,
     SAPLINGLOFT_REFUSED_BUFFER = 7,
     SAPLINGLOFT_REFUSED_STATE = 8,
@@ -66,11 +66,11 @@ enum saplingloft_refusal {
     SAPLINGLOFT_REFUSED_LENGTH = 14
 };
 
-/* How a decision was made. A partition competes while one of its ready threads may run on this core; it has budget while at least a quarter of a tick
- * remains of its budget. Of the partitions that are tied for best the favoured one wins, if it is one of them: the one that the thread running until
- * the event worked for when the event came, also where the event is a resume, or blocks or ends that thread. Otherwise, and where the processor
- * idled, the lowest number wins. So an event takes the processor from a partition only where another one comes strictly before it, or where it no
- * longer competes. */
+/* How a decision was made. A partition competes while one of its ready threads may run on this core; it has budget while at least a quarter of a
+ * tick, or half of one in edition 2, remains of its budget. Of the partitions that are tied for best the favoured one wins, if it is one of them: the
+ * one that the thread running until the event worked for when the event came, also where the event is a resume, or blocks or ends that thread.
+ * Otherwise, and where the processor idled, the lowest number wins. So an event takes the processor from a partition only where another one comes
+ * strictly before it, or where it no longer competes. */
 enum saplingloft_mode {
     SAPLINGLOFT_MODE_IDLE = 0,      /* no partition competes */
     SAPLINGLOFT_MODE_FREE_TIME = 1, /* some partition with a share does not compete */
@@ -104,39 +104,41 @@ enum saplingloft_policy {
 
 /* ---- What the caller keeps. The numbers in front are offsets: there is no padding, so each byte of the structs is a byte of some number. */
 
-/* What a sheet says. 84 bytes. */
+/* What a sheet says. 92 bytes. */
 struct saplingloft_settings {
     /*  0 */ uint32_t window;                         /* W, in ticks */
     /*  4 */ uint32_t tick;                           /* C, in cycles */
     /*  8 */ uint32_t policy;                         /* P: 0 default, 1 ratio */
     /* 12 */ uint32_t core;                           /* M */
-    /* 16 */ uint32_t count;                          /* how many partitions there are */
-    /* 20 */ uint32_t shares[SAPLINGLOFT_PARTITIONS]; /* S, in percent; 0 past the last partition */
+    /* 16 */ uint32_t edition;                        /* E: 1 a quarter, 2 half of a tick must remain; 1 where it is not stated */
+    /* 20 */ uint32_t edition_stated;                 /* 1 where the sheet has an E, else 0 */
+    /* 24 */ uint32_t count;                          /* how many partitions there are */
+    /* 28 */ uint32_t shares[SAPLINGLOFT_PARTITIONS]; /* S, in percent; 0 past the last partition */
 };
 
-/* The state on one core. 680 bytes, aligned to 4. Thread t is place t of the arrays; all seven are 0 there if it does not exist. */
+/* The state on one core. 688 bytes, aligned to 4. Thread t is place t of the arrays; all seven are 0 there if it does not exist. */
 struct saplingloft_state {
     /*   0 */ struct saplingloft_settings settings;
-    /*  84 */ uint32_t used[SAPLINGLOFT_PARTITIONS];    /* cycles charged to each partition in the window; 0 past the last */
-    /* 148 */ uint32_t stamp;                           /* of the last accepted event */
-    /* 152 */ uint32_t slot;                            /* the history's current slot */
-    /* 156 */ uint32_t since;                           /* cycles since the last tick */
-    /* 160 */ uint32_t queued;                          /* how many threads are ready */
-    /* 164 */ uint32_t running;                         /* the running thread, or SAPLINGLOFT_IDLE */
-    /* 168 */ uint8_t exists[SAPLINGLOFT_THREADS];      /* 0 or 1 */
-    /* 232 */ uint8_t ready[SAPLINGLOFT_THREADS];       /* 0 or 1 */
-    /* 296 */ uint8_t partitions[SAPLINGLOFT_THREADS];
-    /* 360 */ uint8_t priorities[SAPLINGLOFT_THREADS];  /* 255 is highest */
-    /* 424 */ uint8_t masks[SAPLINGLOFT_THREADS];       /* bit m is set where core m may run the thread */
-    /* 488 */ uint8_t policies[SAPLINGLOFT_THREADS];    /* enum saplingloft_policy: 0 or 1 */
-    /* 552 */ uint8_t slices[SAPLINGLOFT_THREADS];      /* ticks that are left: 1 to SAPLINGLOFT_SLICE of a round-robin thread, 0 of any other */
-    /* 616 */ uint8_t queue[SAPLINGLOFT_THREADS];       /* the ready threads, as ready, a slice's end and set priority order them; then zeros */
+    /*  92 */ uint32_t used[SAPLINGLOFT_PARTITIONS];    /* cycles charged to each partition in the window; 0 past the last */
+    /* 156 */ uint32_t stamp;                           /* of the last accepted event */
+    /* 160 */ uint32_t slot;                            /* the history's current slot */
+    /* 164 */ uint32_t since;                           /* cycles since the last tick */
+    /* 168 */ uint32_t queued;                          /* how many threads are ready */
+    /* 172 */ uint32_t running;                         /* the running thread, or SAPLINGLOFT_IDLE */
+    /* 176 */ uint8_t exists[SAPLINGLOFT_THREADS];      /* 0 or 1 */
+    /* 240 */ uint8_t ready[SAPLINGLOFT_THREADS];       /* 0 or 1 */
+    /* 304 */ uint8_t partitions[SAPLINGLOFT_THREADS];
+    /* 368 */ uint8_t priorities[SAPLINGLOFT_THREADS];  /* 255 is highest */
+    /* 432 */ uint8_t masks[SAPLINGLOFT_THREADS];       /* bit m is set where core m may run the thread */
+    /* 496 */ uint8_t policies[SAPLINGLOFT_THREADS];    /* enum saplingloft_policy: 0 or 1 */
+    /* 560 */ uint8_t slices[SAPLINGLOFT_THREADS];      /* ticks that are left: 1 to SAPLINGLOFT_SLICE of a round-robin thread, 0 of any other */
+    /* 624 */ uint8_t queue[SAPLINGLOFT_THREADS];       /* the ready threads, as ready, a slice's end and set priority order them; then zeros */
 };
 
 #ifdef __cplusplus
-static_assert(sizeof(struct saplingloft_state) == 680, "the state has no padding");
+static_assert(sizeof(struct saplingloft_state) == 688, "the state has no padding");
 #else
-_Static_assert(sizeof(struct saplingloft_state) == 680, "the state has no padding");
+_Static_assert(sizeof(struct saplingloft_state) == 688, "the state has no padding");
 #endif
 
 /* ---- What calls answer. Beside a refusal the other numbers are 0. */
@@ -164,8 +166,8 @@ struct saplingloft_written {
 };
 
 /* ---- The library's own functions. Programs in C and C++ have the inline functions below, which take a state's address and pass those of its parts:
- * settings: window, tick, policy, core, count. clock: stamp, slot, since, queued, running. remaining: one number, in two's complement.
- * Each answers the refusal, or 0; but event and decision answer refusal + 256 * mode + 65536 * partition + 16777216 * thread. */
+ * settings: window, tick, policy, core, edition, edition_stated, count. clock: stamp, slot, since, queued, running. remaining: one number, in two's
+ * complement. Each answers the refusal, or 0; but event and decision answer refusal + 256 * mode + 65536 * partition + 16777216 * thread. */
 
 #ifdef __cplusplus
 extern "C" {
@@ -225,12 +227,13 @@ static inline enum saplingloft_refusal saplingloft_read_sheet(struct saplingloft
     return (enum saplingloft_refusal)saplingloft_lent_read_sheet(sheet, sheet_length, &settings->window, settings->shares);
 }
 
-/* Writes settings as a sheet, 12 * (4 + count) bytes, and answers how many that were (refusals 1, 3 to 7). */
+/* Writes settings as a sheet, 12 * (4 + edition_stated + count) bytes, and answers how many that were (refusals 1, 3 to 7). */
 static inline struct saplingloft_written saplingloft_write_sheet(const struct saplingloft_settings *settings, uint8_t *sheet, size_t sheet_length)
 {
     struct saplingloft_written written;
     written.refusal = (enum saplingloft_refusal)saplingloft_lent_write_sheet(&settings->window, settings->shares, sheet, sheet_length);
-    written.length = written.refusal == SAPLINGLOFT_ACCEPTED ? (size_t)SAPLINGLOFT_RECORD * (4 + settings->count) : 0;
+    size_t records = 4 + (size_t)settings->edition_stated + settings->count;
+    written.length = written.refusal == SAPLINGLOFT_ACCEPTED ? SAPLINGLOFT_RECORD * records : 0;
     return written;
 }
 
@@ -318,11 +321,13 @@ static inline const char *saplingloft_sentence(enum saplingloft_refusal refusal)
 {
     switch (refusal) {
     case SAPLINGLOFT_ACCEPTED: return "accepted";
-    case SAPLINGLOFT_REFUSED_RECORDS: return "the sheet does not have 5 to 20 whole records, one for each of 1 to 16 partitions among them";
+    case SAPLINGLOFT_REFUSED_RECORDS:
+        return "the sheet does not have 5 to 20 whole records, or 6 to 21 where the fifth begins with E, one for each of 1 to 16 partitions among them";
     case SAPLINGLOFT_REFUSED_FORM: return "a letter, digit, space, line feed or two-digit number of the sheet is wrong, or its order";
     case SAPLINGLOFT_REFUSED_WINDOW: return "W, the window, is not 2 to 400 ticks";
     case SAPLINGLOFT_REFUSED_TICK: return "C, the cycles in a tick, is not a multiple of 100 from 100 to 999,900";
-    case SAPLINGLOFT_REFUSED_POLICY_OR_CORE: return "P, the policy, is not 0 or 1, or M, the core, is not 0 to 7";
+    case SAPLINGLOFT_REFUSED_POLICY_CORE_OR_EDITION:
+        return "P, the policy, is not 0 or 1, M, the core, is not 0 to 7, or E, the edition, is not 1 or 2, or not 1 where it is not stated";
     case SAPLINGLOFT_REFUSED_SHARES: return "a share is above 100, or the shares do not add up to 100";
     case SAPLINGLOFT_REFUSED_BUFFER: return "the lent buffer is too short";
     case SAPLINGLOFT_REFUSED_STATE: return "the state is not sound";

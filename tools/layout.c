@@ -10,29 +10,31 @@
 #define LIES(type, field, at) _Static_assert(offsetof(struct type, field) == (at), #type " " #field)
 #define SIZE(type, size) _Static_assert(sizeof(struct type) == (size) && _Alignof(struct type) == 4, #type)
 
-SIZE(saplingloft_settings, 84);
+SIZE(saplingloft_settings, 92);
 LIES(saplingloft_settings, window, 0);
 LIES(saplingloft_settings, tick, 4);
 LIES(saplingloft_settings, policy, 8);
 LIES(saplingloft_settings, core, 12);
-LIES(saplingloft_settings, count, 16);
-LIES(saplingloft_settings, shares, 20);
-SIZE(saplingloft_state, 680);
+LIES(saplingloft_settings, edition, 16);
+LIES(saplingloft_settings, edition_stated, 20);
+LIES(saplingloft_settings, count, 24);
+LIES(saplingloft_settings, shares, 28);
+SIZE(saplingloft_state, 688);
 LIES(saplingloft_state, settings, 0);
-LIES(saplingloft_state, used, 84);
-LIES(saplingloft_state, stamp, 148);
-LIES(saplingloft_state, slot, 152);
-LIES(saplingloft_state, since, 156);
-LIES(saplingloft_state, queued, 160);
-LIES(saplingloft_state, running, 164);
-LIES(saplingloft_state, exists, 168);
-LIES(saplingloft_state, ready, 232);
-LIES(saplingloft_state, partitions, 296);
-LIES(saplingloft_state, priorities, 360);
-LIES(saplingloft_state, masks, 424);
-LIES(saplingloft_state, policies, 488);
-LIES(saplingloft_state, slices, 552);
-LIES(saplingloft_state, queue, 616);
+LIES(saplingloft_state, used, 92);
+LIES(saplingloft_state, stamp, 156);
+LIES(saplingloft_state, slot, 160);
+LIES(saplingloft_state, since, 164);
+LIES(saplingloft_state, queued, 168);
+LIES(saplingloft_state, running, 172);
+LIES(saplingloft_state, exists, 176);
+LIES(saplingloft_state, ready, 240);
+LIES(saplingloft_state, partitions, 304);
+LIES(saplingloft_state, priorities, 368);
+LIES(saplingloft_state, masks, 432);
+LIES(saplingloft_state, policies, 496);
+LIES(saplingloft_state, slices, 560);
+LIES(saplingloft_state, queue, 624);
 
 static struct saplingloft_state state;
 static uint32_t history[SAPLINGLOFT_HISTORY];
@@ -45,10 +47,13 @@ static void same(const char *what, long place, long wanted, long found)
     }
 }
 
-static void start(int window, int tick, int policy, int core, const int shares[16])
+/* A start from a sheet that does not state the edition where that is 0, and the sheet read and written back. */
+static void start(int window, int tick, int policy, int core, int edition, const int shares[16])
 {
     char sheet[SAPLINGLOFT_SHEET + 1];
     int n = sprintf(sheet, "W 00 %06d\nC 00 %06d\nP 00 %06d\nM 00 %06d\n", window, tick, policy, core);
+    if (edition != 0)
+        n += sprintf(sheet + n, "E 00 %06d\n", edition);
     for (int p = 0; p < 16; p++)
         n += sprintf(sheet + n, "S %02d %06d\n", p, shares[p]);
     memset(&state, 0xA5, sizeof state);
@@ -107,11 +112,14 @@ static void written(void)
     for (int p = 0; p < 16; p++) {
         int shares[16] = { 0 };
         shares[p] = 100;
-        start(300 + p, 500000, p % 2, p % 8, shares);
+        int edition = p % 3;
+        start(300 + p, 500000, p % 2, p % 8, edition, shares);
         same("window", p, 300 + p, state.settings.window);
         same("tick", p, 500000, state.settings.tick);
         same("policy", p, p % 2, state.settings.policy);
         same("core", p, p % 8, state.settings.core);
+        same("edition", p, edition == 0 ? 1 : edition, state.settings.edition);
+        same("edition stated", p, edition != 0, state.settings.edition_stated);
         same("count", p, 16, state.settings.count);
         same("running", p, SAPLINGLOFT_IDLE, state.running);
         for (int q = 0; q < 16; q++)
@@ -119,7 +127,7 @@ static void written(void)
     }
     const int shares[16] = { 4, 4, 4, 4, 4, 4, 4, 4, 8, 8, 8, 8, 9, 9, 9, 9 };
     int slices[SAPLINGLOFT_THREADS];
-    start(400, 999900, 1, 3, shares);
+    start(400, 999900, 1, 3, 2, shares);
     for (int t = 0; t < 64; t++) {
         struct saplingloft_record create = { SAPLINGLOFT_KIND_CREATE, t, t % 16, 100 + t, 0, (8 + t * 16) % 256, policy_of(t) };
         accepted("create", t, create);
@@ -194,9 +202,9 @@ static enum saplingloft_refusal verdict(const struct saplingloft_state *given)
 static void read(void)
 {
     for (size_t at = 0; at < sizeof state; at++) {
-        bool anything = (at >= 148 && at < 152) || (at >= 360 && at < 424);
-        bool something = at == 8 || at == 12 || at == 152 || at == 153 || (at >= 156 && at < 159);
-        bool partition = at >= 296 && at < 360, mask = at >= 424 && at < 488, slice = at >= 552 && at < 616;
+        bool anything = (at >= 156 && at < 160) || (at >= 368 && at < 432);
+        bool something = at == 8 || at == 12 || at == 160 || at == 161 || (at >= 164 && at < 167);
+        bool partition = at >= 304 && at < 368, mask = at >= 432 && at < 496, slice = at >= 560 && at < 624;
         struct saplingloft_state changed = state;
         uint8_t *byte = (uint8_t *)&changed + at;
         *byte = partition ? 16 : mask ? 0 : slice ? SAPLINGLOFT_SLICE + 1 : *byte ^ 1;
@@ -220,6 +228,29 @@ static void read(void)
     same("remaining of partition 16", 1, 0, balance.remaining);
     same("too little history", 0, SAPLINGLOFT_REFUSED_BUFFER, saplingloft_decision(&state, history, SAPLINGLOFT_HISTORY - 1).refusal);
     same("too little history", 1, SAPLINGLOFT_REFUSED_BUFFER, saplingloft_remaining(&state, history, SAPLINGLOFT_HISTORY - 1, 0).refusal);
+}
+
+/* 400 cycles remain, of ticks of 1000: enough in edition 1 and too little in edition 2, as the sheet or the state says it. */
+static void editions(void)
+{
+    const int shares[16] = { 100 };
+    for (int edition = 0; edition <= 2; edition++) {
+        start(2, 1000, 0, 0, edition, shares);
+        accepted("create", 0, (struct saplingloft_record){ SAPLINGLOFT_KIND_CREATE, 0, 0, 0, 0, 1, 0 });
+        accepted("ready", 0, of(SAPLINGLOFT_KIND_READY, 0, 0));
+        struct saplingloft_answer answer = tell(of(SAPLINGLOFT_KIND_TICK, 0, 1600));
+        same("an event by its edition", edition, edition == 2 ? SAPLINGLOFT_MODE_AT_LIMIT : SAPLINGLOFT_MODE_UNDERLOAD, answer.mode);
+        same("a state of its edition", edition, 0, verdict(&state));
+        for (uint32_t other = 0; other <= 3; other++) {
+            state.settings.edition = other;
+            same("a state of another edition", other, other == 1 || (edition != 0 && other == 2) ? 0 : 8, verdict(&state));
+        }
+    }
+    for (uint32_t edition = 1; edition <= 2; edition++) {
+        state.settings.edition = edition;
+        same("a decision by the state's edition", edition, edition == 2 ? SAPLINGLOFT_MODE_AT_LIMIT : SAPLINGLOFT_MODE_UNDERLOAD,
+             saplingloft_decision(&state, history, SAPLINGLOFT_HISTORY).mode);
+    }
 }
 
 /* A run of three ticks, the last one cut, with room for so many bytes of lines; and an overrun. */
@@ -265,6 +296,7 @@ int main(void)
 {
     written();
     read();
+    editions();
     many();
     sentences();
     printf("layout: the header's structs and calls are the library's, state %zu bytes\n", sizeof state);

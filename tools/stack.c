@@ -1,9 +1,9 @@
 /* The stack that each call takes at most, measured by running: bytes below the caller's frame, with the call's arguments and its return address.
  *
  * A call is made on a stack of its own that was painted before, and what is no longer painted afterwards was used; what an empty function uses
- * there is taken off. The states are a small one and one of the largest sheet, under both policies of a sheet, with threads of both policies; the
- * events are of every kind, accepted and refused. Each call is made once before it is measured, because the first one may have the system's linker
- * look for a function. */
+ * there is taken off. The states are a small one and one of the largest sheet, under both policies of a sheet, whose edition is not stated or is 2,
+ * with threads of both policies; the events are of every kind, accepted and refused. Each call is made once before it is measured, because the first
+ * one may have the system's linker look for a function. */
 #define _XOPEN_SOURCE 700 /* ucontext.h */
 #include "saplingloft.h"
 
@@ -109,10 +109,10 @@ static void damaged(uint8_t *byte)
     *byte ^= 128;
 }
 
-static void scenario(int partitions, int threads, int window, int policy)
+static void scenario(int partitions, int threads, int window, int policy, const char *edition)
 {
     char text[SAPLINGLOFT_SHEET + 1];
-    sheet_length = (size_t)sprintf(text, "W 00 %06d\nC 00 001000\nP 00 %06d\nM 00 000000\n", window, policy);
+    sheet_length = (size_t)sprintf(text, "W 00 %06d\nC 00 001000\nP 00 %06d\nM 00 000000\n%s", window, policy, edition);
     for (int p = 0; p < partitions; p++)
         sheet_length += (size_t)sprintf(text + sheet_length, "S %02d %06d\n", p, p == 0 ? 100 - 6 * (partitions - 1) : 6);
     memcpy(sheet, text, sheet_length);
@@ -157,10 +157,12 @@ static void scenario(int partitions, int threads, int window, int policy)
 
 int main(void)
 {
-    for (int policy = 0; policy < 2; policy++) {
-        scenario(1, 1, 2, policy);
-        scenario(16, 64, 400, policy);
-    }
+    for (int policy = 0; policy < 2; policy++)
+        for (int stated = 0; stated < 2; stated++) {
+            const char *edition = stated ? "E 00 000002\n" : "";
+            scenario(1, 1, 2, policy, edition);
+            scenario(16, 64, 400, policy, edition);
+        }
     int wrong = 0;
     for (int i = 0; i < CALLS; i++) {
         printf("%-12s %5zu\n", calls[i].name, calls[i].most);

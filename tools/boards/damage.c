@@ -41,17 +41,21 @@ static uint64_t digest(const struct memory *memory)
     return sum;
 }
 
-/* Shares that add up to 100, some of them 0; now and then a number that is out of its limits, a byte that is wrong, or an end that is missing. */
+/* Shares that add up to 100, some of them 0, and an edition in two of three sheets; now and then a number that is out of its limits, a byte that is
+ * wrong, or an end that is missing. */
 static size_t make_sheet(uint8_t sheet[SAPLINGLOFT_SHEET + 1])
 {
-    uint32_t partitions = 1 + below(below(4) == 0 ? SAPLINGLOFT_PARTITIONS : 4), left = 100, wrong = below(12);
+    uint32_t partitions = 1 + below(below(4) == 0 ? SAPLINGLOFT_PARTITIONS : 4), left = 100, wrong = below(13);
     uint32_t window = wrong == 0 ? below(2) * 401 : 2 + below(below(8) == 0 ? 399 : 5);
     uint32_t tick = wrong == 1 ? 150 : 100 * (1 + below(below(4) == 0 ? 9999 : 20));
     uint32_t policy = wrong == 2 ? 2 : below(2);
     uint32_t core = below(8);
+    uint32_t edition = wrong == 6 ? 3 : below(3);
     char *text = (char *)sheet;
     int at = sprintf(text, "W 00 %06lu\nC 00 %06lu\nP 00 %06lu\nM 00 %06lu\n", (unsigned long)window, (unsigned long)tick, (unsigned long)policy,
                      (unsigned long)core);
+    if (edition != 0)
+        at += sprintf(text + at, "E 00 %06lu\n", (unsigned long)edition);
     for (uint32_t p = 0; p < partitions; p++) {
         uint32_t share = p + 1 == partitions ? left + (wrong == 3) : below(below(4) == 0 ? left + 1 : left / 3 + 1);
         left -= share;
@@ -106,14 +110,26 @@ static void damage_turn(void)
     bytes[below(THREADS)] = (uint8_t)below(SAPLINGLOFT_SLICE + 2);
 }
 
-/* In two of three cases one to three places, of the state or of a row: a bit, or any number; now and then a policy or a slice. */
+/* The edition, or whether it is stated, becomes a small number, which it may have: 1 or 2, and 0 or 1. */
+static void damage_edition(void)
+{
+    uint32_t *word = below(2) == 0 ? &damaged.state.settings.edition : &damaged.state.settings.edition_stated;
+    *word = below(4);
+}
+
+/* In two of three cases one to three places, of the state or of a row: a bit, or any number; now and then a policy or a slice, or the edition. */
 static void damage(void)
 {
     damaged = sound;
     if (below(3) == 0)
         return;
-    if (below(6) == 0) {
+    uint32_t which = below(6);
+    if (which == 0) {
         damage_turn();
+        return;
+    }
+    if (which == 1) {
+        damage_edition();
         return;
     }
     for (uint32_t times = 1 + below(3); times > 0; times--) {
