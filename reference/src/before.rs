@@ -1,6 +1,7 @@
-//! The proved library as it was before a tie was the running partition's, for
-//! the benchmark: its state and its functions are the present ones'. tools/bench
-//! gives its functions these names, so that one program has both libraries.
+//! The proved library as it was before there were editions, for the benchmark:
+//! its settings have neither an edition nor whether it is stated, and its state
+//! is 8 bytes shorter. tools/bench gives its functions these names, so that one
+//! program has both libraries.
 
 type Five = [u32; 5];
 type Words = [u32; 16];

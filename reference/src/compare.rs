@@ -25,7 +25,9 @@ use fenced::{Edge, Fenced};
 use proved::{Settings, State};
 use reference::plain::Plain;
 use reference::streams::{answer, stream, Case, Random, Reach};
-use reference::{read_sheet, write_sheet, Balance, Kept, Line, Scheduler, NO_THREAD, RECORD};
+use reference::{
+    read_sheet, write_sheet, Balance, Cycles, Kept, Line, Scheduler, NO_THREAD, RECORD,
+};
 use states::Saved;
 use std::process::ExitCode;
 use std::sync::atomic::{AtomicU64, Ordering};
@@ -166,6 +168,12 @@ impl Comparison {
                 let room = sheet.len() - RECORD + self.below(3 * RECORD);
                 self.written(&other, room)?;
             }
+            for _ in 0..4 {
+                let mut other = read;
+                damage::edition(&mut self.random, &mut other);
+                let room = sheet.len() - 2 * RECORD + self.below(4 * RECORD);
+                self.written(&other, room)?;
+            }
         }
         Ok(())
     }
@@ -183,7 +191,8 @@ impl Comparison {
         same("what write sheet wrote", &wanted, &found)?;
         same("what write sheet was given", settings, &given)?;
         self.reach.refusals[usize::from(told)] += u64::from(told != 0);
-        self.tally.written += 1;
+        let cause = sound::misstated_alone(settings);
+        self.tally.written(settings, room, told, cause);
         Ok(())
     }
 
@@ -274,6 +283,10 @@ impl Comparison {
             };
             if closely && self.below(seldom) == 0 {
                 self.another_running(&saved, record).map_err(here)?;
+            }
+            if closely {
+                self.another_edition(&second, &saved, record)
+                    .map_err(here)?;
             }
             let mut event = record.to_vec();
             let line = self.fenced.event(&mut saved, &mut event);
@@ -412,6 +425,9 @@ impl Comparison {
         if let Some(cause) = sound::refused_for(given) {
             self.tally.refused_for(cause);
         }
+        if let Some((cause, otherwise)) = sound::refused_for_edition(given) {
+            self.tally.misstated(cause, otherwise);
+        }
         Ok(())
     }
 
@@ -443,10 +459,34 @@ impl Comparison {
         self.on_any_state(&changed, &event)
     }
 
+    /// A sound state with another edition, or with the same one stated or not,
+    /// and nothing else changed: mostly where the other edition would decide
+    /// otherwise.
+    fn another_edition(&mut self, second: &Scheduler, saved: &Saved, record: &[u8]) -> Checked {
+        let settings = second.settings();
+        let other_need = Cycles(3 * (settings.tick.0 / 4) - settings.need().0);
+        let seldom = if second.decision_with(other_need) == second.decision() {
+            16
+        } else {
+            2
+        };
+        if self.below(seldom) != 0 {
+            return Ok(());
+        }
+        let mut changed = saved.clone();
+        let other = &mut changed.state.settings;
+        (other.edition, other.edition_stated) = self.random.pick(&[(1, 0), (1, 1), (2, 1), (2, 1)]);
+        let plains = [saved, &changed].map(states::plain);
+        let decisions = plains.each_ref().map(Plain::decision);
+        let answers = plains.map(|mut plain| plain.event(record));
+        self.tally.other_edition(decisions, answers);
+        self.on_any_state(&changed, record)
+    }
+
     /// Each byte of a state and of its history with other values: all of
-    /// them for a few states, where flags and policies that are neither 0 nor 1
-    /// have to be refused with 8, and some for more states. Every other value
-    /// meets a tick, the rest a new priority.
+    /// them for a few states, where flags, policies and editions above their
+    /// limits have to be refused with 8, and some for more states. Every other
+    /// value meets a tick, the rest a new priority.
     fn each_byte(&mut self, saved: &Saved, some: bool) -> Checked {
         let all = self.tally.thorough < THOROUGH
             && saved.history.len() <= SHORT
@@ -466,12 +506,10 @@ impl Comparison {
                     Some(place) => damage::byte(&mut changed.history, place),
                 };
                 *byte ^= by;
-                let two_values = [damage::FLAGS, damage::POLICIES];
-                let odd = *byte > 1 && two_values.iter().any(|range| range.contains(&place));
-                if odd {
+                if damage::is_beyond(place, *byte) {
                     let refusal = sound::refused(&changed);
-                    same("a flag or a policy that is neither 0 nor 1", &8, &refusal)?;
-                    self.tally.flags += 1;
+                    same("a byte above what it may be", &8, &refusal)?;
+                    self.tally.beyond += 1;
                 }
                 let event = match (place + usize::from(value)) % 2 {
                     0 => now(TICK, 0, &saved.state),
@@ -566,18 +604,18 @@ fn fixed_cases(comparison: &mut Comparison) -> Result<usize, ExitCode> {
             })
             .map_err(|difference| report(fixed.name, &fixed.case, &difference))?;
     }
-    let case = fixed::starved();
-    let lines = answer(&case);
-    let name = "the lowest priority, share 10";
-    comparison
-        .case(0, &case, &lines, true)
-        .and_then(|()| check(fixed::charged(&lines) >= 7750, "less than 7,750 cycles"))
-        .map_err(|difference| report(name, &case, &difference))?;
-    println!(
-        "{name}: {} cycles in 200 ticks, at least 7,750 are due",
-        fixed::charged(&lines)
-    );
-    Ok(cases.len() + 1)
+    for (edition, due) in [(1, 7750), (2, 8500)] {
+        let case = fixed::starved(edition);
+        let lines = answer(&case);
+        let charged = fixed::charged(&lines);
+        let name = format!("the lowest priority, share 10, edition {edition}");
+        comparison
+            .case(0, &case, &lines, true)
+            .and_then(|()| check(charged >= due, &format!("less than {due} cycles")))
+            .map_err(|difference| report(&name, &case, &difference))?;
+        println!("{name}: {charged} cycles in 200 ticks, at least {due} are due");
+    }
+    Ok(cases.len() + 2)
 }
 
 fn compare(many: u64, first: u64) -> Result<(), ExitCode> {

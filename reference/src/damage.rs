@@ -5,9 +5,16 @@ use crate::states::Saved;
 use reference::streams::Random;
 use std::ops::Range;
 
-/// Where a state's flags stand, `exists` and `ready`, and its policies.
-pub const FLAGS: Range<usize> = 168..296;
-pub const POLICIES: Range<usize> = 488..552;
+/// Bytes of a state that may be so much at most, wherever they stand in their
+/// number: of the edition, of whether it is stated, of the flags `exists` and
+/// `ready`, of the policies.
+const LIMITS: [(Range<usize>, u8); 4] = [(16..20, 2), (20..24, 1), (176..304, 1), (496..560, 1)];
+
+/// Whether one of these bytes, at this place, is above that.
+pub fn is_beyond(place: usize, byte: u8) -> bool {
+    let mut limits = LIMITS.iter();
+    limits.any(|(range, most)| range.contains(&place) && byte > *most)
+}
 
 /// Half of what 32 bits hold: twice this is nothing to who adds in 32 bits.
 const HALF: u32 = 1 << 31;
@@ -15,7 +22,7 @@ const HALF: u32 = 1 << 31;
 pub fn settings(random: &mut Random, settings: &mut Settings) {
     let by = step(random);
     let p = random.below(16) as usize;
-    match random.below(9) {
+    match random.below(11) {
         0 => settings.window = random.pick(&[0, 1, 2, 400, 401, u32::MAX]),
         1 => add(&mut settings.window, by),
         2 => add(&mut settings.tick, by),
@@ -24,10 +31,34 @@ pub fn settings(random: &mut Random, settings: &mut Settings) {
         5 => settings.count = random.pick(&[0, 1, 16, 17, 256, by]),
         6 => add(&mut settings.shares[p], by),
         7 => settings.shares.swap(p, 0),
-        _ => {
+        8 => {
             add(&mut settings.shares[0], HALF);
             add(&mut settings.shares[1], HALF);
         }
+        _ => edition(random, settings),
+    }
+}
+
+/// The edition or whether it is stated, or both: what they may be, and what they
+/// may not.
+pub fn edition(random: &mut Random, settings: &mut Settings) {
+    let bit = 1 << random.below(32);
+    let Settings {
+        edition,
+        edition_stated: stated,
+        ..
+    } = settings;
+    match random.below(8) {
+        0 => *edition = random.pick(&[0, 3, 4, 255, u32::MAX, bit]),
+        // Only their low bytes are right.
+        1 => *edition += random.pick(&[1 << 8, 1 << 16, HALF]),
+        2 => *stated += random.pick(&[1 << 8, 1 << 16, HALF]),
+        // 1 becomes 2 and 2 becomes 1, stated or not; and the other way about.
+        3 => *edition ^= 3,
+        4 => *stated ^= 1,
+        5 => *stated = random.pick(&[2, 3, 255, u32::MAX, bit]),
+        6 => (*edition, *stated) = random.pick(&[(0, 0), (0, 1), (2, 0), (2, 2), (3, 1), (1, 2)]),
+        _ => (*edition, *stated) = random.pick(&[(1, 0), (1, 1), (2, 1)]),
     }
 }
 
@@ -38,7 +69,7 @@ pub fn saved(random: &mut Random, Saved { state, history }: &mut Saved) {
     let window = state.settings.window as usize;
     let place = random.below(history.len() as u32) as usize;
     let (row, slot) = (place / window, place % window);
-    match random.below(32) {
+    match random.below(36) {
         0..=3 => settings(random, &mut state.settings),
         4 => add(&mut state.used[row], by),
         5 => add(&mut state.stamp, by),
@@ -85,6 +116,12 @@ pub fn saved(random: &mut Random, Saved { state, history }: &mut Saved) {
             state.ready[t] += u8::from(entry < 64);
         }
         24..=29 => turns(random, state),
+        30..=32 => edition(random, &mut state.settings),
+        33 => {
+            // 8 comes before 7.
+            edition(random, &mut state.settings);
+            history.truncate(place);
+        }
         _ => history.truncate(random.pick(&[history.len() - 1, place])),
     }
 }

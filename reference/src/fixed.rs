@@ -2,6 +2,7 @@
 //! "Both sides of each line" that show in lines, and those of document 02.
 
 use reference::streams::Case;
+use reference::RECORD;
 
 pub struct Fixed {
     pub name: &'static str,
@@ -19,6 +20,19 @@ pub fn sheet(window: u32, tick: u32, policy: u32, core: u32, shares: &[u32]) -> 
         text += &format!("S {p:02} {share:06}\n");
     }
     text.into_bytes()
+}
+
+/// A sheet with a record put in as its so-manieth, counted from 0: an edition
+/// belongs at place 4.
+fn with(record: &[u8], place: usize, mut sheet: Vec<u8>) -> Vec<u8> {
+    let at = place * RECORD;
+    sheet.splice(at..at, record.iter().copied());
+    sheet
+}
+
+/// A sheet that states its edition.
+fn stated(edition: u32, sheet: Vec<u8>) -> Vec<u8> {
+    with(format!("E 00 {edition:06}\n").as_bytes(), 4, sheet)
 }
 
 pub fn tick(stamp: u32) -> Event {
@@ -74,6 +88,145 @@ fn fixed(name: &'static str, sheet: Vec<u8>, events: &[Event], lines: &'static s
 }
 
 pub fn cases() -> Vec<Fixed> {
+    let mut cases = decisions();
+    cases.extend(editions());
+    cases
+}
+
+/// Cases of request (iv) of document 02: the sheet's edition.
+fn editions() -> Vec<Fixed> {
+    let halves = |window, tick| sheet(window, tick, 0, 0, &[50, 50]);
+    let whole = || sheet(4, 1000, 0, 0, &[100]);
+    let sixteen = |more: u32| {
+        let mut shares = vec![0; 16 + more as usize];
+        shares[0] = 100;
+        sheet(4, 1000, 0, 0, &shares)
+    };
+    // Two threads, of which the first, in partition 0, has run for so long.
+    let after = |run: u32| {
+        [
+            create(0, 0, 20, 0, 1),
+            create(1, 1, 10, 0, 1),
+            ready(0, 0),
+            ready(1, 0),
+            tick(run),
+        ]
+    };
+    // One thread alone, which has run for so long.
+    let alone = |run: u32| [create(0, 0, 20, 0, 1), ready(0, 0), tick(run)];
+    let refused = |name, sheet, line| fixed(name, sheet, &[tick(0)], line);
+    vec![
+        fixed(
+            "edition 1: remaining 250 has budget",
+            stated(1, halves(2, 1000)),
+            &after(750),
+            "00 2 00 000\n",
+        ),
+        fixed(
+            "edition 1: remaining 249 does not",
+            stated(1, halves(2, 1000)),
+            &after(751),
+            "00 2 01 001\n",
+        ),
+        fixed(
+            "edition 2: remaining 500 has budget",
+            stated(2, halves(2, 1000)),
+            &after(500),
+            "00 2 00 000\n",
+        ),
+        fixed(
+            "edition 2: remaining 499 does not",
+            stated(2, halves(2, 1000)),
+            &after(501),
+            "00 2 01 001\n",
+        ),
+        fixed(
+            "edition 1: underload with less than half a tick",
+            stated(1, sheet(2, 1000, 0, 0, &[100])),
+            &alone(1501),
+            "00 2 00 000\n",
+        ),
+        fixed(
+            "edition 2: at limit with less than half a tick",
+            stated(2, sheet(2, 1000, 0, 0, &[100])),
+            &alone(1501),
+            "00 3 00 000\n",
+        ),
+        fixed(
+            "edition 2: underload with half a tick",
+            stated(2, sheet(2, 1000, 0, 0, &[100])),
+            &alone(1500),
+            "00 2 00 000\n",
+        ),
+        fixed(
+            "21 records with an edition",
+            stated(2, sixteen(0)),
+            &[tick(0)],
+            "00 0 00 255\n",
+        ),
+        refused(
+            "22 records with an edition",
+            stated(2, sixteen(1)),
+            "01 0 00 000\n",
+        ),
+        refused("21 records without an edition", sixteen(1), "01 0 00 000\n"),
+        refused(
+            "an edition and no share",
+            stated(1, sheet(4, 1000, 0, 0, &[])),
+            "01 0 00 000\n",
+        ),
+        refused(
+            "five records, the fifth none at all but for its E",
+            with(b"Exxxxxxxxxxx", 4, sheet(4, 1000, 0, 0, &[])),
+            "01 0 00 000\n",
+        ),
+        refused(
+            "an edition twice",
+            stated(1, stated(1, whole())),
+            "02 0 00 000\n",
+        ),
+        refused(
+            "an edition before M",
+            with(b"E 00 000001\n", 3, whole()),
+            "02 0 00 000\n",
+        ),
+        refused(
+            "an edition after S",
+            with(b"E 00 000001\n", 5, whole()),
+            "02 0 00 000\n",
+        ),
+        refused(
+            "an edition numbered 01",
+            with(b"E 01 000001\n", 4, whole()),
+            "02 0 00 000\n",
+        ),
+        refused(
+            "an edition of half a letter",
+            with(b"E 00 0000,5\n", 4, whole()),
+            "02 0 00 000\n",
+        ),
+        refused("edition 0", stated(0, whole()), "05 0 00 000\n"),
+        refused("edition 3", stated(3, whole()), "05 0 00 000\n"),
+        refused("edition 999,999", stated(999_999, whole()), "05 0 00 000\n"),
+        refused(
+            "edition 3, W 1",
+            stated(3, halves(1, 1000)),
+            "03 0 00 000\n",
+        ),
+        refused(
+            "edition 3, C 150",
+            stated(3, halves(4, 150)),
+            "04 0 00 000\n",
+        ),
+        refused(
+            "edition 3, shares of 99",
+            stated(3, sheet(4, 1000, 0, 0, &[99])),
+            "05 0 00 000\n",
+        ),
+    ]
+}
+
+fn decisions() -> Vec<Fixed> {
     let halves = |window, tick| sheet(window, tick, 0, 0, &[50, 50]);
     let mut comma = halves(4, 1000);
     comma[60..].copy_from_slice(b"S 01 0000,5\n");
@@ -402,9 +555,11 @@ pub fn cases() -> Vec<Fixed> {
 }
 
 /// W 100, C 1000, four partitions, each with a thread, that of partition 3,
-/// whose share is 10, with the lowest priority. It is to be charged at least
-/// 7,750 cycles in 200 ticks.
-pub fn starved() -> Case {
+/// whose share is 10, with the lowest priority. In 200 ticks it is to be charged
+/// at least its budget, 10,000 cycles, less what may be lost to each of the three
+/// others: 7,750 in edition 1, where that is three quarters of a tick, and 8,500
+/// in edition 2, where it is half of one.
+pub fn starved(edition: u32) -> Case {
     let mut events = Vec::new();
     for p in 0..4 {
         events.push(create(p, p, 40 - p, 0, 1));
@@ -412,7 +567,7 @@ pub fn starved() -> Case {
     }
     events.extend((1..=300).map(|n| tick(1000 * n)));
     Case {
-        sheet: sheet(100, 1000, 0, 0, &[40, 30, 20, 10]),
+        sheet: stated(edition, sheet(100, 1000, 0, 0, &[40, 30, 20, 10])),
         events: bytes(&events),
     }
 }

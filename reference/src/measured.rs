@@ -157,7 +157,7 @@ fn packed(line: Line) -> u32 {
 }
 
 /// Whether these are all lines of accepted events.
-pub fn accepted(lines: &[u8]) -> bool {
+fn accepted(lines: &[u8]) -> bool {
     lines.chunks(RECORD).all(|line| line.starts_with(b"00"))
 }
 

@@ -12,6 +12,8 @@ pub struct Settings {
     pub tick: u32,
     pub policy: u32,
     pub core: u32,
+    pub edition: u32,
+    pub edition_stated: u32,
     pub count: u32,
     pub shares: [u32; 16],
 }
@@ -37,13 +39,13 @@ pub struct State {
 }
 
 /// Bytes of a state: it has no padding.
-pub const STATE: usize = 680;
+pub const STATE: usize = 688;
 const _: () = assert!(size_of::<State>() == STATE);
 
 /// Settings as they are lent: in a struct, or each part by itself.
 pub struct Sheet<'a> {
-    /// Window, tick, policy, core, count.
-    pub settings: &'a mut [u32; 5],
+    /// Window, tick, policy, core, edition, edition stated, count.
+    pub settings: &'a mut [u32; 7],
     pub shares: &'a mut [u32; 16],
 }
 
@@ -89,7 +91,7 @@ impl Parts<'_> {
 impl Settings {
     pub fn parts(&mut self) -> Sheet<'_> {
         let settings: *mut Settings = self;
-        // The five words stand one after the other from the start on, and
+        // The seven words stand one after the other from the start on, and
         // the shares after them.
         unsafe {
             Sheet {
@@ -133,6 +135,7 @@ impl State {
 }
 
 mod c {
+    type Seven = [u32; 7];
     type Five = [u32; 5];
     type Words = [u32; 16];
     type Bytes = [u8; 64];
@@ -140,7 +143,7 @@ mod c {
         pub fn saplingloft_lent_start(
             sheet: *const u8,
             sheet_length: u64,
-            settings: &mut Five,
+            settings: &mut Seven,
             shares: &mut Words,
             used: &mut Words,
             clock: &mut Five,
@@ -156,7 +159,7 @@ mod c {
             history_length: u64,
         ) -> u32;
         pub fn saplingloft_lent_event(
-            settings: &Five,
+            settings: &Seven,
             shares: &Words,
             used: &mut Words,
             clock: &mut Five,
@@ -174,7 +177,7 @@ mod c {
             event_length: u64,
         ) -> u32;
         pub fn saplingloft_lent_run(
-            settings: &Five,
+            settings: &Seven,
             shares: &Words,
             used: &mut Words,
             clock: &mut Five,
@@ -194,7 +197,7 @@ mod c {
             lines_length: u64,
         ) -> u32;
         pub fn saplingloft_lent_decision(
-            settings: &Five,
+            settings: &Seven,
             shares: &Words,
             used: &Words,
             clock: &Five,
@@ -210,7 +213,7 @@ mod c {
             history_length: u64,
         ) -> u32;
         pub fn saplingloft_lent_remaining(
-            settings: &Five,
+            settings: &Seven,
             shares: &Words,
             used: &Words,
             clock: &Five,
@@ -230,11 +233,11 @@ mod c {
         pub fn saplingloft_lent_read_sheet(
             sheet: *const u8,
             sheet_length: u64,
-            settings: &mut Five,
+            settings: &mut Seven,
             shares: &mut Words,
         ) -> u32;
         pub fn saplingloft_lent_write_sheet(
-            settings: &Five,
+            settings: &Seven,
             shares: &Words,
             sheet: *mut u8,
             sheet_length: u64,

@@ -1,6 +1,7 @@
 //! Whether the doors refuse a state, worked out in the plainest way from
-//! "Sound means" of document 01 and request (i) of document 02. The reference has no states that others
-//! may change; this is what the proved doors' answers are compared with.
+//! "Sound means" of document 01 and requests (i) and (iv) of document 02. The
+//! reference has no states that others may change; this is what the proved
+//! doors' answers are compared with.
 
 use crate::proved::{Settings, State};
 use crate::states::Saved;
@@ -27,14 +28,59 @@ fn within_limits(settings: &Settings) -> bool {
         core,
         count,
         shares,
+        ..
     } = settings;
     (2..=400).contains(window)
         && (100..=999_900).contains(tick)
         && tick % 100 == 0
         && *policy <= 1
         && *core <= 7
+        && misstated(settings).is_none()
         && (1..=16).contains(count)
         && sum(&shares[..*count as usize]) == 100
+}
+
+/// What the edition and whether it is stated may be wrong by.
+#[derive(Clone, Copy)]
+pub enum Misstated {
+    /// Stated, and neither 1 nor 2.
+    Number,
+    /// Not stated, and not 1.
+    Unstated,
+    /// Neither stated nor not: a flag above 1.
+    Flag,
+}
+
+fn misstated(settings: &Settings) -> Option<Misstated> {
+    match (settings.edition_stated, settings.edition) {
+        (0, 1) | (1, 1 | 2) => None,
+        (0, _) => Some(Misstated::Unstated),
+        (1, _) => Some(Misstated::Number),
+        _ => Some(Misstated::Flag),
+    }
+}
+
+/// What settings are refused for, if that is the edition and all else is within
+/// its limits.
+pub fn misstated_alone(settings: &Settings) -> Option<Misstated> {
+    misstated(settings).filter(|_| within_limits(&unstated(settings)))
+}
+
+/// What a state's edition is wrong by, and what the state would be refused with
+/// if it were not.
+pub fn refused_for_edition(saved: &Saved) -> Option<(Misstated, u8)> {
+    let cause = misstated(&saved.state.settings)?;
+    let mut without = saved.clone();
+    without.state.settings = unstated(&saved.state.settings);
+    Some((cause, refused(&without)))
+}
+
+fn unstated(settings: &Settings) -> Settings {
+    Settings {
+        edition: 1,
+        edition_stated: 0,
+        ..*settings
+    }
 }
 
 fn accounts(state: &State, rows: &[u32]) -> bool {

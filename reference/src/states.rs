@@ -10,6 +10,8 @@ pub fn settings(given: &reference::Settings) -> Settings {
         tick: given.tick.0,
         policy: given.policy,
         core: given.core,
+        edition: given.edition,
+        edition_stated: given.edition_stated,
         count: given.partitions as u32,
         shares: given.shares.map(|share| share.0),
     }
@@ -22,6 +24,8 @@ pub fn of_settings(given: &Settings) -> reference::Settings {
         tick: Cycles(given.tick),
         policy: given.policy,
         core: given.core,
+        edition: given.edition,
+        edition_stated: given.edition_stated,
         partitions: given.count as usize,
         shares: given.shares.map(Percent),
     }

@@ -1,9 +1,9 @@
 //! What the comparison did, and what of it has to come up at least once.
 
-use crate::proved::State;
-use crate::sound::Unfit;
+use crate::proved::{Settings, State};
+use crate::sound::{Misstated, Unfit};
 use reference::plain::Plain;
-use reference::{Line, NO_THREAD};
+use reference::{Line, NO_THREAD, RECORD};
 use std::fmt;
 
 /// Kinds of events.
@@ -16,14 +16,30 @@ pub struct Tally {
     pub events: u64,
     pub records: u64,
     pub asked: u64,
-    pub written: u64,
+    written: u64,
     pub refused: u64,
     pub sound: u64,
-    pub flags: u64,
+    /// Bytes above what they may be.
+    pub beyond: u64,
     pub thorough: u64,
     /// Refused for a policy, a slice, or one of them in an absent thread, and
     /// for nothing else.
     unfit: [u64; 3],
+    /// Refused for an edition that is none, one that is not stated and not 1, and
+    /// a flag above 1, and for nothing else; with 8, though the history is too
+    /// short as well; and of settings to be written, with 5, and though there is
+    /// too little room as well.
+    misstated: [u64; 3],
+    before_7: [u64; 3],
+    unwritten: [u64; 3],
+    unwritten_before_7: u64,
+    /// Sheets written: without an E, with E 1, with E 2; and those that are
+    /// refused because there is room for all records but the last.
+    sheets: [u64; 3],
+    short: [u64; 3],
+    /// Decisions, and accepted events, that another edition answered otherwise
+    /// in a state of which nothing else was changed: in mode, in thread.
+    editions: [[u64; 2]; 2],
     /// Of states that are still sound: new priorities that moved a thread, to
     /// the head and to the tail.
     moved: [u64; 2],
@@ -46,6 +62,47 @@ impl Tally {
     /// A state was refused, for one of these causes alone.
     pub fn refused_for(&mut self, cause: Unfit) {
         self.unfit[cause as usize] += 1;
+    }
+
+    /// A state was refused for its edition, and would have been with a number,
+    /// or 0, for something else.
+    pub fn misstated(&mut self, cause: Misstated, otherwise: u8) {
+        match otherwise {
+            0 => self.misstated[cause as usize] += 1,
+            7 => self.before_7[cause as usize] += 1,
+            _ => {}
+        }
+    }
+
+    /// Settings were written, or refused, to so much room; the cause is an
+    /// edition, and nothing else.
+    pub fn written(&mut self, given: &Settings, room: usize, told: u8, cause: Option<Misstated>) {
+        self.written += 1;
+        if let Some(cause) = cause {
+            self.unwritten[cause as usize] += 1;
+            self.unwritten_before_7 += u64::from(room < RECORD * (4 + given.count as usize));
+            return;
+        }
+        let which = (given.edition * given.edition_stated) as usize;
+        match told {
+            0 => self.sheets[which] += 1,
+            7 => {
+                let records = 4 + given.edition_stated as usize + given.count as usize;
+                self.short[which] += u64::from(room / RECORD + 1 == records);
+            }
+            _ => {}
+        }
+    }
+
+    /// Two states that differ in the edition alone were asked for their decision,
+    /// and given an event.
+    pub fn other_edition(&mut self, decisions: [Line; 2], answers: [Line; 2]) {
+        for (counts, [one, other]) in self.editions.iter_mut().zip([decisions, answers]) {
+            if one.refusal == 0 && other.refusal == 0 {
+                counts[0] += u64::from(one.mode != other.mode);
+                counts[1] += u64::from(one.thread != other.thread);
+            }
+        }
     }
 
     /// A sound state was asked for its decision.
@@ -91,6 +148,13 @@ impl Tally {
     pub fn complete(&self) -> bool {
         let all = |counts: &[u64]| counts.iter().all(|&count| count > 0);
         all(&self.unfit)
+            && all(&self.misstated)
+            && all(&self.before_7)
+            && all(&self.unwritten)
+            && all(&[self.unwritten_before_7])
+            && all(&self.sheets)
+            && all(&self.short)
+            && all(self.editions.as_flattened())
             && all(&self.moved)
             && all(&self.favoured)
             && all(&self.idle)
@@ -135,8 +199,32 @@ impl fmt::Display for Tally {
         )?;
         writeln!(
             f,
-            "states changed on purpose: {} refused, {} still sound; {} with each byte at all other values, flags and policies at other values than 0 and 1: {}",
-            self.refused, self.sound, self.thorough, self.flags
+            "states changed on purpose: {} refused, {} still sound; {} with each byte at all other values, flags, policies and editions above their limits: {}",
+            self.refused, self.sound, self.thorough, self.beyond
+        )?;
+        let [number, unstated, flag] = self.misstated;
+        let [short_number, short_unstated, short_flag] = self.before_7;
+        writeln!(
+            f,
+            "refused for an edition alone that is none: {number}, that is not stated: {unstated}, whose flag is none: {flag}; \
+             with too short a history as well: {short_number}, {short_unstated}, {short_flag}"
+        )?;
+        let [number, unstated, flag] = self.unwritten;
+        writeln!(
+            f,
+            "not written for the same: {number}, {unstated}, {flag}; with too little room as well: {}",
+            self.unwritten_before_7
+        )?;
+        let [none, one, two] = self.sheets;
+        let [short_none, short_one, short_two] = self.short;
+        writeln!(
+            f,
+            "written without E, with E 1, with E 2: {none}, {one}, {two}; one record too long for the room: {short_none}, {short_one}, {short_two}"
+        )?;
+        let [[mode, thread], [event_mode, event_thread]] = self.editions;
+        writeln!(
+            f,
+            "another edition alone gave another mode: {mode} decisions, {event_mode} events; another thread: {thread} decisions, {event_thread} events"
         )?;
         let [policy, slice, absent] = self.unfit;
         writeln!(
