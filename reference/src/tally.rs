@@ -83,7 +83,11 @@ impl Tally {
             self.unwritten_before_7 += u64::from(room < RECORD * (4 + given.count as usize));
             return;
         }
-        let which = (given.edition * given.edition_stated) as usize;
+        let which = match (given.edition_stated, given.edition) {
+            (0, _) => 0,
+            (_, 1) => 1,
+            _ => 2,
+        };
         match told {
             0 => self.sheets[which] += 1,
             7 => {

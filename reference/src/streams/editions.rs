@@ -165,7 +165,11 @@ impl Editions {
 
 /// The place of an edition among [`SHEETS`].
 fn which(edition: u32, stated: u32) -> usize {
-    (edition * stated) as usize
+    match (stated, edition) {
+        (0, _) => 0,
+        (_, 1) => 1,
+        _ => 2,
+    }
 }
 
 impl fmt::Display for Editions {
