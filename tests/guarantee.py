@@ -1,10 +1,12 @@
 #!/usr/bin/env python3
 """Document 01's example of the guarantee, on a hostile list of events: W 100, C 1000, four partitions, share 10: at least 7,750 cycles
-in 200 ticks. The partition with 10 percent waits throughout, at the lowest priority, in every other list with two threads that take turns and are
+in 200 ticks, three quarters of a tick less than the budget for each other partition; in edition 2 (document 02, (iv)) half a tick less, so at least
+8,500. The partition with 10 percent waits throughout, at the lowest priority, in every other list with two threads that take turns and are
 raised and lowered to each other's priority; the others wake, sleep and change priority so as to run past their budgets. In every third list all have
 one priority, and the waiting partition loses ties to others that ran. What was charged is worked out here from the events and the printed lines
-alone. And a list on which the bound is reached exactly, tests/vectors/tight, made for another scheduler: W 5, C 100, shares 70, 25 and 5; partition 0
-waits throughout, is promised 350 less twice 75, and between the ticks at 1000 and 2000 gets 200, and not one more.
+alone. And two lists on which the bound is reached exactly, made for another scheduler, both with W 5 and C 100: partition 0 waits throughout, and
+between the ticks at 1000 and 2000 it gets 200, and not one more. In tests/vectors/tight its share is 70, and it is promised 350 less twice 75; in
+tests/vectors/editions-tight, in edition 2, its share is 60, and it is promised 300 less twice 50.
 
     tests/guarantee.py DESK
 """
@@ -19,9 +21,11 @@ from records import record
 
 WINDOW, TICK = 100, 1000
 SHARES = (40, 10, 25, 25)
-WAITING, BOUND = 1, 7750
+WAITING = 1
+BOUNDS = {"": 7750, "E 00 000002\n": 8500}  # by the sheet's record of the edition
 SECOND = 4  # the waiting partition's second thread
-TIGHT = Path(__file__).resolve().parent / "vectors/tight"
+VECTORS = Path(__file__).resolve().parent / "vectors"
+TIGHT = ["tight", "editions-tight"]
 TIGHT_WINDOW, TIGHT_TICK, TIGHT_WAITING, TIGHT_BOUND = 5, 100, 0, 200
 
 
@@ -95,35 +99,47 @@ def lost_ties(sheet, data, lines):
     return sum(WAITING in best and ran in best and WAITING < ran == int(line[5:7]) for line, (ran, best) in zip(lines, ties(sheet, data, lines)))
 
 
-def tight(desk):
-    """What the waiting partition is charged in each stretch of the tight list."""
-    events = (TIGHT / "events.bin").read_bytes()
+def tight(desk, name):
+    """What the waiting partition is charged in each stretch of a tight list."""
+    events = (VECTORS / name / "events.bin").read_bytes()
     moments = [(events[i], int.from_bytes(events[i + 4:i + 8], "little")) for i in range(0, len(events), 12)]
-    lines = printed(desk, (TIGHT / "shares.txt").read_bytes(), events)
+    lines = printed(desk, (VECTORS / name / "shares.txt").read_bytes(), events)
     return list(stretches(moments, lines, TIGHT_WINDOW, TIGHT_TICK, TIGHT_WAITING))
 
 
-def main():
-    desk = Path(sys.argv[1]).resolve()
-    sheet = "W 00 %06d\nC 00 %06d\nP 00 000000\nM 00 000000\n" % (WINDOW, TICK) + "".join("S %02d %06d\n" % s for s in enumerate(SHARES))
+def charged(desk, edition):
+    """What the waiting partition is charged in each stretch of hostile lists, whether its second thread ever ran, and the ties that it lost."""
     found, took_turns, lost = [], False, 0
     for policy in (0, 1):
-        settings = sheet.replace("P 00 000000", "P 00 %06d" % policy).encode()
+        head = "W 00 %06d\nC 00 %06d\nP 00 %06d\nM 00 000000\n" % (WINDOW, TICK, policy)
+        sheet = (head + edition + "".join("S %02d %06d\n" % s for s in enumerate(SHARES))).encode()
         for seed in range(140):
             events = hostile(seed % 7, seed, 6, seed % 2, seed % 3 == 0)
             data = b"".join(e[1] for e in events)
-            lines = printed(desk, settings, data)
+            lines = printed(desk, sheet, data)
             took_turns |= any(line[8:11] == b"%03d" % SECOND for line in lines)
-            lost += lost_ties(settings, data, lines) if seed == 0 else 0  # of one list for each policy: it takes a second
+            lost += lost_ties(sheet, data, lines) if seed == 0 else 0  # of one list for each policy: it takes a second
             found += stretches([(kind, stamp) for kind, _, stamp in events], lines, WINDOW, TICK, WAITING)
-    print(f"guarantee: at least {min(found)} cycles in each of {len(found)} stretches of 200 ticks; {BOUND} are promised")
-    reached = tight(desk)
-    print(f"guarantee: {min(reached)} cycles in the tightest of {len(reached)} stretches of {2 * TIGHT_WINDOW} ticks; {TIGHT_BOUND} are promised")
-    if not took_turns:
-        print("guarantee: the waiting partition's second thread never ran")
-    if not lost:
-        print("guarantee: the waiting partition never lost a tie to one of a higher number")
-    sys.exit(min(found) < BOUND or min(reached) != TIGHT_BOUND or not took_turns or not lost)
+    return found, took_turns, lost
+
+
+def main():
+    desk, wrong = Path(sys.argv[1]).resolve(), False
+    for edition, bound in BOUNDS.items():
+        found, took_turns, lost = charged(desk, edition)
+        sheets = "in edition 2" if edition else "where no edition is stated"
+        print(f"guarantee: {sheets}, at least {min(found)} cycles in each of {len(found)} stretches of 200 ticks; {bound} are promised")
+        if not took_turns:
+            print("guarantee: the waiting partition's second thread never ran")
+        if not lost:
+            print("guarantee: the waiting partition never lost a tie to one of a higher number")
+        wrong |= min(found) < bound or not took_turns or not lost
+    for name in TIGHT:
+        reached = tight(desk, name)
+        print(f"guarantee: {name}: {min(reached)} cycles in the tightest of {len(reached)} stretches of {2 * TIGHT_WINDOW} ticks; "
+              f"{TIGHT_BOUND} are promised")
+        wrong |= min(reached) != TIGHT_BOUND
+    sys.exit(wrong)
 
 
 if __name__ == "__main__":

@@ -2,10 +2,11 @@
 """Has the checker compute the model's definitions on runs of another scheduler.
 
 tests/vectors/NAME has a sheet (shares.txt), events (events.bin) and the lines that a scheduler which shares nothing with the model printed
-for them (expected.txt). slices-NNN are runs of it with request (i) of document 02, priorities-NNN with (i) and (ii), ties-NNN with (i) to (iii); in
-tells-.. a wrong reading of one of them, which the name tells, prints something else (tells-lowered-to-the-head has the rule's own name). It does
-so too where a raised thread keeps its place, in ties-006, where a preempted one has a full slice, in priorities-043, and where one that is set to
-the priority it has goes to the tail, in ties-037.
+for them (expected.txt). slices-NNN are runs of it with request (i) of document 02, priorities-NNN with (i) and (ii), ties-NNN with (i) to (iii),
+editions-.. with (i) to (iv), where a name with an E tells what the sheet has of it; in tells-.. a wrong reading of one of them, which the name tells,
+prints something else (tells-lowered-to-the-head has the rule's own name). It does so too where a raised thread keeps its place, in ties-006, where a
+preempted one has a full slice, in priorities-043, where one that is set to the priority it has goes to the tail, in ties-037, and where half a tick
+must remain in edition 1, in editions-009, or where no edition is stated, in editions-014.
 
 For each run this writes a theorem, that the definitions give just these lines, into a crate of its own in a temporary
 copy of the repository, and has the checker prove that crate. The theorem tests the state before each event, as the doors do; its proof tests
