@@ -1,5 +1,5 @@
 //! The worked run, both sides of each line, the slips, time slices, priorities
-//! that change, ties, and the comparison with the plain model.
+//! that change, ties, editions, and the comparison with the plain model.
 
 use crate::accounts::Accounts;
 use crate::plain::Plain;
@@ -35,6 +35,16 @@ fn sheet(w: u32, c: u32, policy: u32, core: u32, shares: &[u32]) -> Vec<u8> {
         text += &format!("S {p:02} {share:06}\n");
     }
     text.into_bytes()
+}
+
+/// A sheet with a record put in at a place.
+fn with(record: &[u8], place: usize, sheet: &[u8]) -> Vec<u8> {
+    [&sheet[..12 * place], record, &sheet[12 * place..]].concat()
+}
+
+/// A sheet that states this edition.
+fn stated(edition: u32, sheet: &[u8]) -> Vec<u8> {
+    with(format!("E 00 {edition:06}\n").as_bytes(), 4, sheet)
 }
 
 fn start(w: u32, c: u32, policy: u32, core: u32, shares: &[u32]) -> Scheduler {
@@ -465,9 +475,12 @@ fn another_core() {
 fn starved_partition_gets_its_share() {
     // W 100, C 1000, four partitions, share 10: at least 7,750 cycles in 200
     // ticks, whatever the others do. Here they wake and sleep at random, and
-    // stand above it in priority.
-    for seed in 0..20_u64 {
-        let mut s = start(100, 1000, (seed % 2) as u32, 0, &[30, 30, 10, 30]);
+    // stand above it in priority. "Demand 3 loses three quarters of a tick period
+    // for each other partition under 1, and half under 2": then 8,500.
+    for seed in 0..40_u64 {
+        let (edition, due) = [(1, 7750), (2, 8500)][(seed / 2 % 2) as usize];
+        let sheet = sheet(100, 1000, (seed % 2) as u32, 0, &[30, 30, 10, 30]);
+        let mut s = Scheduler::start(&stated(edition, &sheet)).unwrap();
         for t in 0..4 {
             took(&mut s, create(t, t, if t == 2 { 1 } else { 50 + t }, 1, 0));
         }
@@ -499,7 +512,7 @@ fn starved_partition_gets_its_share() {
         }
         for opening in 0..=100 {
             let sum: u32 = charged[opening..opening + 200].iter().sum();
-            assert!(sum >= 7750, "{sum}");
+            assert!(sum >= due, "{sum}");
         }
     }
 }
@@ -1290,6 +1303,273 @@ fn a_given_state_says_who_is_favoured() {
     // It is worse by the cycle that it is charged.
     assert_eq!(given.decision().partition, 1);
     assert_eq!(given.event(&tick(1)).partition, 0);
+}
+
+// Editions ------------------------------------------------------------------
+//
+// The words quoted are request (iv)'s of document 02.
+
+/// Edition and whether it is stated, or the refusal.
+fn edition(sheet: &[u8]) -> Result<(u32, u32), u8> {
+    read_sheet(sheet).map(|read| (read.edition, read.edition_stated))
+}
+
+#[test]
+fn an_edition_is_stated_or_1() {
+    // "The sheet gains an optional record E 00 after M, 1 for the quarter and 2
+    // for the half; a sheet without it means 1"
+    let plain = sheet(4, 1000, 1, 3, &[30, 70]);
+    assert_eq!(edition(&plain), Ok((1, 0)));
+    assert_eq!(edition(&stated(1, &plain)), Ok((1, 1)));
+    assert_eq!(edition(&stated(2, &plain)), Ok((2, 1)));
+    // All else is read as without it.
+    let unstated = settings(4, 1000, 1, 3, &[30, 70]);
+    let read = read_sheet(&stated(2, &plain)).unwrap();
+    let but_for_it = Settings {
+        edition: 1,
+        edition_stated: 0,
+        ..read
+    };
+    assert_eq!(but_for_it, unstated);
+}
+
+#[test]
+fn as_many_records_as_the_fifth_allows() {
+    // "A sheet then has 5 to 20 records, or 6 to 21 where the fifth begins with
+    // E. .. any other number gives 1". One byte tells, whatever else is wrong.
+    let plain = |count: usize| {
+        let mut shares = vec![0; count];
+        shares[0] = 100;
+        sheet(4, 1000, 0, 0, &shares)
+    };
+    for count in 1..=18 {
+        let wanted = (count > 16).then_some(1);
+        assert_eq!(read_sheet(&plain(count)).err(), wanted);
+        assert_eq!(read_sheet(&stated(2, &plain(count))).err(), wanted);
+        // The same of records that are none.
+        let malformed = with(b"Exxxxxxxxxxx", 4, &plain(count));
+        assert_eq!(read_sheet(&malformed).err(), wanted.or(Some(2)));
+    }
+    let none = &plain(1)[..48];
+    assert_eq!(read_sheet(none).err(), Some(1));
+    assert_eq!(read_sheet(&stated(1, none)).err(), Some(1));
+    assert_eq!(read_sheet(&with(b"Exxxxxxxxxxx", 4, none)).err(), Some(1));
+    // A small letter is none: five records, and the fifth is wrong.
+    assert_eq!(read_sheet(&with(b"e 00 000001\n", 4, none)).err(), Some(2));
+    // Cut anywhere.
+    let right = stated(2, &plain(2));
+    for length in 0..right.len() {
+        let wanted = if length == 72 { None } else { Some(1) };
+        assert_eq!(read_sheet(&right[..length]).err(), wanted);
+    }
+}
+
+#[test]
+fn an_edition_has_its_form_and_its_place() {
+    let plain = sheet(4, 1000, 0, 0, &[50, 50]);
+    let right = stated(1, &plain);
+    // Any other byte in any place of the record: 2, but for its first, after
+    // which it is a share's place, and for its digits.
+    for place in 48..60 {
+        for byte in 0..=255 {
+            let mut sheet = right.clone();
+            sheet[place] = byte;
+            let refusal = read_sheet(&sheet).err();
+            if byte == right[place] || (place, byte) == (58, b'2') {
+                assert_eq!(refusal, None);
+            } else if (53..59).contains(&place) && byte.is_ascii_digit() {
+                assert_eq!(refusal, Some(5));
+            } else {
+                assert_eq!(refusal, Some(2));
+            }
+        }
+    }
+    // In no other place, and not twice.
+    for place in [0, 1, 2, 3, 5, 6] {
+        for number in [1, 2] {
+            let record = format!("E 00 {number:06}\n");
+            let elsewhere = with(record.as_bytes(), place, &plain);
+            assert_eq!(read_sheet(&elsewhere).err(), Some(2));
+        }
+    }
+    for place in 4..=7 {
+        let twice = with(b"E 00 000001\n", place, &right);
+        assert_eq!(read_sheet(&twice).err(), Some(2));
+    }
+}
+
+#[test]
+fn an_edition_is_1_or_2() {
+    // "E other than 1 or 2 gives 5"
+    let plain = sheet(4, 1000, 0, 0, &[100]);
+    for number in [0, 3, 4, 10, 12, 257, 65_538, 100_001, 999_999] {
+        assert_eq!(edition(&stated(number, &plain)), Err(5));
+    }
+    // After 3 and 4, before 6.
+    let others = [
+        (sheet(1, 150, 2, 8, &[101]), 3),
+        (sheet(2, 150, 2, 8, &[101]), 4),
+        (sheet(2, 100, 0, 0, &[101]), 5),
+    ];
+    for (other, refusal) in others {
+        assert_eq!(edition(&stated(3, &other)), Err(refusal));
+    }
+    assert_eq!(edition(&stated(2, &sheet(2, 100, 0, 0, &[101]))), Err(6));
+}
+
+#[test]
+fn a_sheet_is_written_back_as_it_came() {
+    // "a sheet without it means 1 and is written back without it; a stated 1 is
+    // written back too"
+    for count in [1, 2, 16] {
+        let mut shares = vec![0; count];
+        shares[0] = 100;
+        let plain = sheet(400, 999_900, 1, 7, &shares);
+        for text in [plain.clone(), stated(1, &plain), stated(2, &plain)] {
+            let read = read_sheet(&text).unwrap();
+            let mut out = vec![b'x'; text.len() + 12];
+            assert_eq!(write_sheet(&read, &mut out), Ok(text.len()));
+            assert_eq!(out, [&text[..], &[b'x'; 12]].concat());
+            assert_eq!(read_sheet(&out[..text.len()]), Ok(read));
+            // A byte too little.
+            let mut short = vec![b'x'; text.len() - 1];
+            assert_eq!(write_sheet(&read, &mut short), Err(7));
+            assert!(short.iter().all(|&byte| byte == b'x'));
+        }
+    }
+}
+
+#[test]
+fn no_other_edition_is_written() {
+    // "Where no E is stated, only 1 is within limits: 5 in writing". A flag is 0
+    // or 1.
+    let good = settings(4, 1000, 0, 0, &[100]);
+    let numbers = [0, 1, 2, 3, 255, 256, 257, 258, 65_537, 1 << 31, u32::MAX];
+    for edition in numbers {
+        for edition_stated in numbers {
+            let given = Settings {
+                edition,
+                edition_stated,
+                ..good
+            };
+            let length = match (edition_stated, edition) {
+                (0, 1) => Ok(60),
+                (1, 1) | (1, 2) => Ok(72),
+                _ => Err(5),
+            };
+            assert_eq!(write_sheet(&given, &mut [0; 72]), length);
+            // 5 before 6 and 7, and after 1, 3 and 4.
+            if length.is_err() {
+                let mut bad = given;
+                bad.shares[0] = Percent(99);
+                assert_eq!(write_sheet(&bad, &mut []), Err(5));
+                bad.tick = Cycles(150);
+                assert_eq!(write_sheet(&bad, &mut []), Err(4));
+                bad.window = Ticks(1);
+                assert_eq!(write_sheet(&bad, &mut []), Err(3));
+                bad.partitions = 17;
+                assert_eq!(write_sheet(&bad, &mut []), Err(1));
+            }
+        }
+    }
+    // Numbers that are all 0 are no settings, also where the rest is right.
+    let zero = Settings { edition: 0, ..good };
+    assert_eq!(write_sheet(&zero, &mut [0; 72]), Err(5));
+}
+
+#[test]
+fn half_of_a_tick() {
+    // "at least half a tick must remain": budgets 2000 and 2000, and partition 1
+    // runs by priority until too little remains.
+    let plain = sheet(4, 1000, 0, 0, &[50, 50]);
+    let sheets = [plain.clone(), stated(1, &plain), stated(2, &plain)];
+    let cases = [
+        (1500, [1, 1, 1]),
+        (1501, [1, 1, 0]),
+        (1750, [1, 1, 0]),
+        (1751, [0, 0, 0]),
+    ];
+    for (used, winners) in cases {
+        for (sheet, winner) in sheets.iter().zip(winners) {
+            let mut s = Scheduler::start(sheet).unwrap();
+            join(&mut s, 0, 0, 10);
+            join(&mut s, 1, 1, 20);
+            took(&mut s, tick(1000));
+            assert_eq!(took(&mut s, set(1, 20, used)), (2, winner, winner));
+            assert_eq!(remaining(&s, 1), 2000 - i64::from(used));
+        }
+    }
+}
+
+#[test]
+fn the_edition_tells_the_mode_and_the_order() {
+    // One partition: underload while it has budget, then at limit.
+    for (edition, used, mode) in [(1, 1750, 2), (1, 1751, 3), (2, 1500, 2), (2, 1501, 3)] {
+        let text = stated(edition, &sheet(2, 1000, 0, 0, &[100]));
+        let mut s = Scheduler::start(&text).unwrap();
+        join(&mut s, 0, 0, 10);
+        took(&mut s, tick(1000));
+        assert_eq!(took(&mut s, set(0, 10, used)), (mode, 0, 0));
+        // Neither a resume nor a tick that clears what was used changes the edition.
+        assert_eq!(took(&mut s, resume(0)), (2, 0, 0));
+        took(&mut s, tick(1000));
+        assert_eq!(took(&mut s, set(0, 10, used)), (mode, 0, 0));
+    }
+    // Free time, as partition 2 sleeps. Partition 0, which has used more of its
+    // budget or has the lower priority, has 400 cycles left of its 1000, and
+    // partition 1 has 400 of its 400: enough for both, or for neither.
+    for (policy, edition, winner) in [(0, 1, 0), (0, 2, 0), (1, 1, 1), (1, 2, 1)] {
+        let text = stated(edition, &sheet(10, 1000, policy, 0, &[10, 4, 86]));
+        let mut s = Scheduler::start(&text).unwrap();
+        join(&mut s, 0, 0, 20);
+        took(&mut s, tick(600));
+        assert_eq!(join(&mut s, 1, 1, 10), (1, winner, winner));
+    }
+    // The same with 600 left of partition 1's 600: in edition 2 it alone has
+    // budget, whatever the priorities.
+    for (policy, edition, winner) in [(0, 1, 0), (0, 2, 1), (1, 1, 1), (1, 2, 1)] {
+        let text = stated(edition, &sheet(10, 1000, policy, 0, &[10, 6, 84]));
+        let mut s = Scheduler::start(&text).unwrap();
+        join(&mut s, 0, 0, 20);
+        took(&mut s, tick(600));
+        assert_eq!(join(&mut s, 1, 1, 10), (1, winner, winner));
+    }
+}
+
+#[test]
+fn what_must_remain_is_whole() {
+    for (tick, quarter, half) in [(100, 25, 50), (300, 75, 150), (999_900, 249_975, 499_950)] {
+        let unstated = settings(4, tick, 0, 0, &[100]);
+        let one = Settings {
+            edition_stated: 1,
+            ..unstated
+        };
+        let two = Settings { edition: 2, ..one };
+        assert_eq!(
+            [unstated, one, two].map(|settings| settings.need().0),
+            [quarter, quarter, half]
+        );
+    }
+}
+
+#[test]
+fn a_given_state_says_its_edition() {
+    // One thread, 400 cycles left of 2000: underload in edition 1, at limit in
+    // edition 2, at the decision door and after an event of no time.
+    for (edition, stated, mode) in [(1, 0, 2), (1, 1, 2), (2, 1, 3)] {
+        let mut given = Plain::new(&Settings {
+            edition,
+            edition_stated: stated,
+            ..settings(2, 1000, 0, 0, &[100])
+        });
+        given.event(&create(0, 0, 10, 1, 0));
+        given.event(&ready(0, 0));
+        given.history[0] = vec![900, 700];
+        given.since = 900;
+        assert_eq!(given.remaining(0), 400);
+        assert_eq!(given.decision().mode, mode);
+        assert_eq!(given.event(&set(0, 10, 0)).mode, mode);
+    }
 }
 
 // Streams -------------------------------------------------------------------
