@@ -1,4 +1,5 @@
-"""Why a share sheet is refused: the number by document 01's table, and for each fault its line, its column and its cause in a sentence.
+"""Why a share sheet is refused: the number by document 01's table, with the E record of document 02, (iv), and for each fault its line, its column and
+its cause in a sentence.
 
 The number is only foretold here. The proved program says it, and the tools that explain a sheet compare the two.
 """
@@ -6,10 +7,12 @@ from typing import NamedTuple
 
 from lib import sheets
 from lib.errors import Disagreement
-from lib.sheets import HEAD, PARTITIONS, RECORD
+from lib.sheets import EDITIONS, HEAD, PARTITIONS, RECORD
 
-ORDER = "W, C, P, M, then S 00, S 01 and so on"
-FEWEST, MOST = len(HEAD) + 1, len(HEAD) + PARTITIONS
+ORDER = "W, C, P, M, E where the edition is stated, then S 00, S 01 and so on"
+# the places of the lines in that order are numbered from 1; that of the E line may stay empty
+EDITION = len(HEAD) + 1
+LAST = EDITION + PARTITIONS
 MARK = b"\xef\xbb\xbf"
 
 
@@ -28,8 +31,8 @@ class Found(NamedTuple):
 def find(data):
     """The first number of document 01's table that fits, with the faults that explain it."""
     count, cut = divmod(len(data), RECORD)
-    faults = form_faults(data)
-    if cut or not FEWEST <= count <= MOST:
+    faults, before = form_faults(data), len(sheets.head(sheets.states_edition(data)))
+    if cut or not before + 1 <= count <= before + PARTITIONS:
         return Found(1, faults)
     if faults:
         return Found(2, faults)
@@ -58,21 +61,22 @@ def explain(data, number):
 
 def form_faults(data):
     """What keeps a file from being whole records in their order. There is a fault exactly if it gets number 1 or 2: a file without one is 5 to 20
-    lines, each of them the twelve bytes that are wanted in its place."""
+    lines, or 6 to 21 with an E line, each of them the twelve bytes that are wanted in its place."""
     if fault := file_fault(data):
         return [fault]
     lines = data.split(b"\n")
     ended = lines[-1] == b""
     if ended:
         lines.pop()
+    before = len(sheets.head(any(map(is_edition, lines))))
     faults, place = [], 1
-    for number, line in enumerate(lines[:MOST + 1], 1):
-        if place <= MOST or not is_record(line):
-            faults += [Fault(number, column, cause) for column, cause in line_faults(number, place, line)]
+    for number, line in enumerate(lines[:before + PARTITIONS + 1], 1):
+        if place <= LAST or is_edition(line) or not is_record(line):
+            faults += [Fault(number, column, cause) for column, cause in line_faults(number, place_of(place, line), line)]
         place = place_after(place, line)
     if not ended:
         faults.append(Fault(len(lines), len(lines[-1]) + 1, "the line feed at the end of the last line is missing: press Enter there, and save"))
-    return faults + count_faults(lines)
+    return faults + count_faults(lines, before)
 
 
 def file_fault(data):
@@ -86,13 +90,14 @@ def file_fault(data):
     return None
 
 
-def count_faults(lines):
-    count = sum(map(is_record, lines))
-    if count < FEWEST:
-        return [Fault(len(lines), 1, f"the sheet ends here, after {count} of at least {FEWEST} lines: {ORDER}")]
-    if count > MOST:
-        return [Fault(MOST + 1, 1, f"the sheet has {count} lines, and at most {MOST} are possible: "
-                                   f"{len(HEAD)}, and a share for each of 1 to {PARTITIONS} partitions")]
+def count_faults(lines, before):
+    """Too few lines or too many, with so many before the shares."""
+    count, fewest, most = sum(map(is_record, lines)), before + 1, before + PARTITIONS
+    if count < fewest:
+        return [Fault(len(lines), 1, f"the sheet ends here, after {count} of at least {fewest} lines: {ORDER}")]
+    if count > most:
+        return [Fault(most + 1, 1, f"the sheet has {count} lines, and at most {most} are possible: "
+                                   f"{before}, and a share for each of 1 to {PARTITIONS} partitions")]
     return []
 
 
@@ -101,22 +106,32 @@ def is_record(line):
     return bool(line.strip()) and not line.startswith(b"#")
 
 
+def is_edition(line):
+    """Whether a line is meant as the E line."""
+    return line[:1] in (b"E", b"e")
+
+
+def place_of(place, line):
+    """The place that a line is held to where this one comes next: that of the E line stays empty where another line comes."""
+    return place + 1 if place == EDITION and not is_edition(line) else place
+
+
 def place_after(place, line):
-    """Which place in the order the next line has, so that one line too many or too few is one fault. A line that is no record, or is for an earlier
-    place, takes none; one for a later place leaves out those between."""
-    if not is_record(line):
+    """Which place comes next after a line, so that one line too many or too few is one fault. A line that is no record, or is for an earlier place,
+    takes none, nor does an E line elsewhere than in its own; one for a later place leaves out those between."""
+    if not is_record(line) or (is_edition(line) and place != EDITION):
         return place
     text = line[len(MARK):] if line.startswith(MARK) else line
-    found = next((at for at in range(1, MOST + 1) if text.startswith(wanted(at)[0])), place)
+    found = next((at for at in range(1, LAST + 1) if text.startswith(wanted(at)[0])), place_of(place, line))
     return max(found + 1, place)
 
 
 def wanted(place):
     """The first five bytes of the line in this place, and what its number counts."""
-    if place <= len(HEAD):
-        letter, name = HEAD[place - 1]
+    if place <= EDITION:
+        letter, name = sheets.head(stated=True)[place - 1]
         return f"{letter} 00 ".encode(), name
-    return f"S {place - len(HEAD) - 1:02d} ".encode(), "share"
+    return f"S {place - EDITION - 1:02d} ".encode(), "share"
 
 
 def line_faults(number, place, line):
@@ -150,6 +165,8 @@ def start_fault(text, start):
             continue
         if at == 0 and text[:1].upper() == start[:1]:
             return 1, f"a capital {start[:1].decode()} is wanted here"
+        if at == 0 and is_edition(text):
+            return 1, "an E line can stand only right after the M line, and only once: take it out here"
         if at == 0:
             return 1, f"the {start[:1].decode()} line is wanted here, and not {shown(text[:1])}: the order of the lines is {ORDER}"
         if byte == ord(" "):
@@ -211,11 +228,13 @@ def choice_faults(sheet):
         faults.append(Fault(3, 6, f"the policy is {sheet.policy}, and it is 0 (default) or 1 (ratio)"))
     if sheet.core > 7:
         faults.append(Fault(4, 6, f"the core is {sheet.core}, and it is 0 to 7"))
+    if sheet.edition not in EDITIONS:
+        faults.append(Fault(5, 6, f"the edition is {sheet.edition}, and it is 1 (a quarter of a tick must remain) or 2 (half a tick)"))
     return faults
 
 
 def share_faults(sheet):
-    first, total = len(HEAD) + 1, sum(sheet.shares)
+    first, total = len(sheets.head(sheet.edition_stated)) + 1, sum(sheet.shares)
     faults = [Fault(first + partition, 6, f"the share of partition {partition} is {share}, and no share is above 100")
               for partition, share in enumerate(sheet.shares) if share > 100]
     if total != 100:

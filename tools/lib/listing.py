@@ -10,7 +10,7 @@ def meaning(step, day, names):
         return f"REFUSED ({line.refusal}), {day.source(step.number - 1)}: {step.words}"
     if line.thread == NOBODY:
         return f"idle{place(step)}"
-    return f"{names[line.partition]} runs (thread {line.thread}), {MODES[line.mode]}{tie(step)}{turn(step)}{place(step)}"
+    return f"{names[line.partition]} runs (thread {line.thread}), {MODES[line.mode]}{tie(step)}{edition(step, names)}{turn(step)}{place(step)}"
 
 
 def tie(step):
@@ -19,6 +19,15 @@ def tie(step):
     if len(scheduler.tied) < 2:
         return ""
     return "; a tie, and it stays" if scheduler.favoured in scheduler.tied else "; a tie, and it has the lowest number"
+
+
+def edition(step, names):
+    """The decision turned on the edition that the sheet states: in the other one another job would run, or the mode would be another."""
+    other = step.scheduler.otherwise()
+    if other is None:
+        return ""
+    would = f"{names[other.partition]} would run" if other.partition != step.line.partition else f"it would be {MODES[other.mode]}"
+    return f"; in edition {step.scheduler.sheet.other_edition} {would}"
 
 
 def turn(step):

@@ -1,5 +1,5 @@
-"""Document 01's rules for one core, with the time slices of document 02, (i), the places after a changed priority, (ii), and the ties of (iii), as
-plain as they can be said: what an event is refused for, what it charges and changes, and who runs next.
+"""Document 01's rules for one core, with the time slices of document 02, (i), the places after a changed priority, (ii), the ties of (iii) and the
+editions of (iv), as plain as they can be said: what an event is refused for, what it charges and changes, and who runs next.
 
 The tools need this to say why, and what was used. They never answer by it alone: replay.py holds every step to the line of the proved desk.
 """
@@ -65,7 +65,7 @@ class Standing(NamedTuple):
     top: int
     used: int
     budget: int
-    enough: int
+    need: int
 
     @property
     def competing(self):
@@ -77,7 +77,7 @@ class Standing(NamedTuple):
 
     @property
     def has_budget(self):
-        return self.remaining >= self.enough
+        return self.remaining >= self.need
 
 
 # ---- the order of partitions. A criterion is above 0 where the first standing is better than the second, below 0 where it is worse, and 0 where they
@@ -327,24 +327,36 @@ class Scheduler:
                 tops[thread.partition] = thread.priority
         return tops
 
-    def standings(self):
-        tops, enough = self.tops(), self.sheet.enough()
-        return [Standing(p, tops.get(p), self.used[p], budget, enough) for p, budget in enumerate(self.budgets)]
+    def standings(self, edition=None):
+        """What is compared of the partitions, in the sheet's edition or in another."""
+        tops, need = self.tops(), self.sheet.need(edition)
+        return [Standing(p, tops.get(p), self.used[p], budget, need) for p, budget in enumerate(self.budgets)]
 
     def candidates(self, best):
         """The threads of the best partition that may run and have its top priority, in the order of the line; the first is chosen."""
         return [t for t in self.line if self.allowed(t) and self.threads[t].partition == best.partition and self.threads[t].priority == best.top]
 
+    def choose(self, standings):
+        """The decision by these standings, and the partitions that are tied for best in it, by number."""
+        mode = mode_of(standings)
+        tied = tied_for_best(standings, criteria(mode, self.sheet.policy))
+        if not tied:
+            return Decision(IDLE, 0, NOBODY), []
+        best = winner(tied, self.favoured)
+        return Decision(mode, best.partition, self.candidates(best)[0]), [s.partition for s in tied]
+
     def decide(self):
         """Step 3: the decision, whose thread is the running one from now on."""
         standings = self.standings()
         self.competing = {s.partition for s in standings if s.competing}
-        mode = mode_of(standings)
-        tied = tied_for_best(standings, criteria(mode, self.sheet.policy))
-        decision = Decision(IDLE, 0, NOBODY)
-        if tied:
-            best = winner(tied, self.favoured)
-            decision = Decision(mode, best.partition, self.candidates(best)[0])
-        self.tied = [s.partition for s in tied]
+        decision, self.tied = self.choose(standings)
         self.running = decision.thread
         return decision
+
+    def otherwise(self):
+        """Where the sheet states its edition and the decision turned on it: the decision that the other edition would give on the same accounts."""
+        if not self.sheet.edition_stated:
+            return None
+        here, _ = self.choose(self.standings())
+        there, _ = self.choose(self.standings(self.sheet.other_edition))
+        return there if there != here else None

@@ -21,6 +21,16 @@ def row(standing, names):
             count(standing.budget), count(standing.remaining), "yes" if standing.has_budget else "no", fraction)
 
 
+def edition(scheduler, names):
+    """What must remain of a budget, where the sheet states its edition; and what the other edition would decide, where that is something else."""
+    sheet, other = scheduler.sheet, scheduler.otherwise()
+    if sheet.edition_stated:
+        yield f"edition {sheet.edition}: a job has budget while at least {sheet.need_in_words()} remains"
+    if other is not None:
+        yield (f"the edition tells here: in edition {sheet.other_edition}, where {sheet.need_in_words(sheet.other_edition)} must remain, it would be "
+               f"mode {other.mode}, {MODES[other.mode]}, and {names[other.partition]} would run (thread {other.thread})")
+
+
 def favour(step, names):
     """Who is favoured in a tie. A refused event favours nobody else than the last accepted one did."""
     until = "this event" if step.accepted else "the last accepted event"
@@ -111,6 +121,7 @@ def text(step, day, names):
     if mode == IDLE:
         return
     yield f"policy {policy}; compared by: {', then '.join(NAMES[c] for c in order)}"
+    yield from edition(scheduler, names)
     yield favour(step, names)
     best = standings[scheduler.running_partition()]
     others = [s for s in standings if s.competing and s is not best]
