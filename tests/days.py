@@ -1,8 +1,9 @@
 #!/usr/bin/env python3
 """tools/day: its numbers are those of document 01's words, on the paper's run, on runs of another scheduler and on days made here; each event stands
 beside the desk's own line; refusals name their line; what starved is named, and what is not promised; a slice that ended, what a new priority did to
-the thread's place in the line, and who won a tie and why, are told as document 02, (i) to (iii), has them; whatever is in the folder is told in a
-sentence; the README shows what the tool prints; and where the program says something else than the rules, the tool says so.
+the thread's place in the line, who won a tie and why, and where the edition of the sheet turned a decision, are told as document 02, (i) to (iv), has
+them; whatever is in the folder is told in a sentence; the README shows what the tool prints; and where the program says something else than the
+rules, the tool says so.
 """
 import random
 import re
@@ -10,10 +11,12 @@ import shutil
 import subprocess
 import sys
 import tempfile
+from collections import Counter
 from pathlib import Path
 
 from expecting import Expecting
-from folders import ROOT, VECTORS, WORKED_SHEET, WORKED_TEXT, Judged, desk_lines, fill, places, random_day, sheet_of, show, slices, table, ties
+from folders import (ROOT, VECTORS, WORKED_SHEET, WORKED_TEXT, Judged, desk_lines, editions, fill, places, random_day, settings_of, sheet_of, show,
+                     slices, table, ties)
 
 sys.path.insert(0, str(ROOT / "tools"))
 from lib import programs, records, replay, sheets, why
@@ -322,6 +325,74 @@ def ties_told(folder, seed):
     return decisions(f"ties of seed {seed}", sheet, data, lines), [wanted[n] for n, (ran, best) in found.items() if ran != best[0]]
 
 
+# The example of editions, by hand from document 02, (iv): mode and thread after each event, in edition 2, which its sheet states, and in edition 1.
+# The budgets are 1,600 and 2,400; 500 cycles must remain, or 250.
+EDITIONS = {
+    # created, ready, and a tick; at 1900 and at three ticks, with an event between, at 3300; at 4950, and at five ticks
+    2: [(0, 255), (0, 255), (1, 0), (2, 1), (2, 1), (2, 1), (2, 0), (2, 0), (3, 0), (2, 1), (3, 1), (2, 1), (2, 0), (2, 0), (2, 1), (2, 1),
+        # the radio blocks, and a tick; it is ready; refused; a tick
+        (1, 1), (1, 1), (2, 0), (0, 0), (2, 0)],
+    # the screen runs for three ticks and the radio for one; at 4950 the screen is overdrawn, and has 450 left again at the next tick
+    1: [(0, 255), (0, 255), (1, 0), (2, 1), (2, 1), (2, 1), (2, 1), (2, 0), (2, 0), (2, 1), (2, 0), (2, 1), (2, 1), (2, 0), (2, 1), (2, 1),
+        (1, 1), (1, 1), (2, 1), (0, 0), (2, 0)],
+}
+# what is said of the other edition, beside the events whose decision turned on the edition
+EDITIONS_SAID = {2: {**{number: "screen would run" for number in (7, 8, 9, 13, 14, 19, 21)}, 11: "it would be underload"},
+                 1: {number: "radio would run" for number in (7, 10, 12, 13, 15, 16, 19)}}
+EDITIONS_TABLE = {2: {"radio": ["40 %", "5,000", "45.5 %", "5,400", "2,000", "1,100", "4,000"],
+                      "screen": ["60 %", "6,000", "54.5 %", "5,000", "2,000", "1,900", "4,000"]},
+                  1: {"radio": ["40 %", "2,050", "18.6 %", "8,350", "3,000", "850", "2,050"],
+                      "screen": ["60 %", "8,950", "81.4 %", "2,050", "1,000", "1,650", "5,950"]}}
+
+
+def editions_shown(folder):
+    """A job that still has a quarter of a tick, but not half of one: beside the event stands what would run in the other edition. Without an edition
+    the same day has the lines of edition 1, and nothing is told of the other."""
+    example = ROOT / "examples/editions"
+    shutil.copytree(example, folder)
+    for edition, record, said in ((2, b"E 00 000002\n", EDITIONS_SAID[2]), (1, b"E 00 000001\n", EDITIONS_SAID[1]), (1, b"", {})):
+        (folder / "shares.txt").write_bytes((example / "shares.txt").read_bytes().replace(b"E 00 000002\n", record))
+        done = show(folder)
+        rows = re.findall(r"^ +(\d+)(?:-(\d+))?  \d\d (\d) \d\d (\d\d\d)  .*?(?:; in edition (\d) (.*))?$", done.stdout, re.M)
+        events = [(number, *row[2:]) for row in rows for number in range(int(row[0]), int(row[1] or row[0]) + 1)]
+        expect([(int(mode), int(thread)) for _, mode, thread, _, _ in events] == EDITIONS[edition], f"the example with {record} has {events}")
+        expect({number: (other, words) for number, _, _, other, words in events if other} == {n: (str(3 - edition), w) for n, w in said.items()},
+               f"of the other edition is said in the example with {record}: {events}")
+        expect(done.returncode == 1 and table(done.stdout) == EDITIONS_TABLE[edition], f"with {record}: status {done.returncode}, {table(done.stdout)}")
+        expect(("edition" in show(folder, "--at", "7").stdout) == bool(record), f"with {record} the edition is told, or is not")
+    done = show(example)
+    has(done, "\nradio   ww##ww##ww#\nscreen  ##ww##ww##w\n", "REFUSED (13), line 35 of day.txt: thread 0 is ready already\n",
+        "\npromise kept: radio got 4,000 cycles or more where 1,100 are promised (1 stretch of 8 ticks)\n")
+    need = "\nedition 2: a job has budget while at least half a tick (500 cycles) remains\n"
+    turned = ("the decision turns on that: in edition 1, where a quarter of a tick (250 cycles) must remain, it would be mode 2, underload, and screen "
+              "would run (thread 1)\n")
+    has(show(example, "--at", "6"), f"{need}favoured in a tie: screen, which ran until this event\n")
+    for number in ("9", "11"):
+        has(show(example, "--at", number), "\nmode 3, at limit: ", f"{need}{turned}favoured in a tie: ")
+    has(show(example, "--at", "20"), "nothing is changed by it, and the decision before it stands:\n", f"{need}{turned}")
+    expect("edition" not in show(example, "--at", "1").stdout, "the edition is told where nobody competes")
+    part = (ROOT / "README.md").read_text().split("## Two editions of the budget test")[1].split("\n## ")[0]
+    shown = [line[4:] for line in part.splitlines() if line.startswith("    ")]
+    expect(len(shown) > 3 and all(line in done.stdout.splitlines() for line in shown), "the README shows another day than the example of editions")
+
+
+def editions_told(folder, seed):
+    """On a day with an edition each event that the other edition would answer otherwise says so, and no other event does. Shares of 44 and 45 percent
+    leave more than a quarter of a tick, and less than half, when a job has run for one tick of the window; one of 11 percent does so from the start."""
+    edition, policy, shares = 1 + seed % 2, seed // 2 % 2, ((44, 45, 11), (45, 55))[seed // 4 % 2]
+    sheet, data = sheet_of(3, 400, shares, policy, edition=edition), random_day(seed, 3, 400, len(shares), 6, 150, (10, 11, 12), (0, 1), 50)
+    lines = desk_lines(fill(folder, sheet, data=data), data)
+    said = {int(number): words for number, words in re.findall(r"^ +(\d+)  .*; (in edition [^;\n]*)(?:;.*)?$", show(folder).stdout, re.M)}
+    wanted = {}
+    for number, (line, decision) in enumerate(zip(lines, editions(sheet, data, lines)), 1):
+        (mode, won, _), other = decision[edition], decision[3 - edition]
+        if line[:2] == b"00" and other[:2] != (mode, won):
+            would = f"partition {other[1]} would run" if other[1] != won else f"it would be {IN_WORDS[other[0]]}"
+            wanted[number] = f"in edition {3 - edition} {would}"
+    expect(said == wanted, f"seed {seed}: said of the other edition is {said}, and by the paper it is {wanted}")
+    return decisions(f"editions of seed {seed}", sheet, data, lines), [words.split()[2] + words.split()[-1] for words in wanted.values()]
+
+
 def statuses(folder):
     """What is bad usage, what is refused, and what is in the folder."""
     good = fill(folder / "good", WORKED_SHEET, "0 tick # a remark\n")
@@ -388,14 +459,15 @@ def damaged(folder, seed):
 
 def decisions(name, sheet, data, lines):
     """Every decision of a run is explained: the mode and the thread are the desk's, each other competing job is told why it came later, and a slice
-    that ended, what is left of one, what a new priority did, the line, who is favoured and who is tied are as document 02, (i) to (iii), has them."""
+    that ended, what is left of one, what a new priority did, the line, who is favoured, who is tied, and what the other edition would decide, where
+    the sheet states one, are as document 02, (i) to (iv), has them."""
     read, told = [programs.read_line(line) for line in lines], 0
     if programs.sheet_refused(read):
         return 0
-    settings = sheets.read(sheet)
-    names = [f"job {p}" for p in range(len(settings.shares))]
-    steps = zip(replay.replay(settings, records.split(data), read), slices(data, lines), places(data, lines), ties(sheet, data, lines), strict=True)
-    for step, (ended, left), (did, line, raised, lowered), (ran, best) in steps:
+    names, tick, edition = [f"job {p}" for p in range(16)], settings_of(sheet).tick, settings_of(sheet).edition
+    steps = zip(replay.replay(sheets.read(sheet), records.split(data), read), slices(data, lines), places(data, lines), ties(sheet, data, lines),
+                editions(sheet, data, lines), strict=True)
+    for step, (ended, left), (did, line, raised, lowered), (ran, best), decision in steps:
         text = list(why.text(step, Day(records.split(data), [], []), names))
         if step.accepted and step.line.mode:
             told += 1
@@ -409,6 +481,8 @@ def decisions(name, sheet, data, lines):
             expect(f"\nfavoured in a tie: {ran_until} until this event\n" in said and won == (ran if ran in best else best[0])
                    and [line for line in later if "a tie" in line] == [f"job {won} before job {p}: {why_won}" for p in best if p != won],
                    f"{name}: after event {step.number}, until which {ran} ran, {best} are tied for best, and it is told as {said}")
+            expect(decision[edition or 1] == step.line[1:] and [line for line in text if "edition" in line and not line.startswith("event ")]
+                   == edition_words(edition, tick, decision), f"{name}: after event {step.number} the editions decide {decision}: {said}")
             expect(re.findall(r"this tick ended the slice of thread (\d+),", said) == [str(ended)] * (ended is not None)
                    and re.findall(rf"\nthread {step.line.thread} is round robin: (\d) of the 4 ticks", said) == [str(left)] * (left > 0),
                    f"{name}: after event {step.number} the slice of {ended} ended, {left} ticks are left, and it is told as {said}")
@@ -422,16 +496,36 @@ def decisions(name, sheet, data, lines):
     return told
 
 
+IN_WORDS = ("idle", "free time", "underload", "at limit")
+
+
+def edition_words(edition, tick, decision):
+    """What --at tells of the edition, by document 02, (iv)."""
+    if edition is None:
+        return []
+    need = {1: f"a quarter of a tick ({tick // 4:,} cycles)", 2: f"half a tick ({tick // 2:,} cycles)"}
+    words, (mode, won, thread) = [f"edition {edition}: a job has budget while at least {need[edition]} remains"], decision[3 - edition]
+    if decision[1] != decision[2]:
+        words.append(f"the decision turns on that: in edition {3 - edition}, where {need[3 - edition]} must remain, it would be mode {mode}, "
+                     f"{IN_WORDS[mode]}, and job {won} would run (thread {thread})")
+    return words
+
+
 def disagreeing(folder):
-    """With a program in the desk's place that answers wrongly, the tool explains nothing and says where. The last one gives a tie to the lowest
-    number, although the other job ran."""
+    """With a program in the desk's place that answers wrongly, the tool explains nothing and says where. The last ones give a tie to the lowest
+    number, although the other job ran, and decide by edition 1 where the sheet states edition 2."""
     shutil.copytree(ROOT / "tools/lib", folder / "tools/lib")
     shutil.copy2(ROOT / "tools/day", folder / "tools/day")
     tie = "0 create 0 partition 0 priority 9 mask 1\n0 create 1 partition 1 priority 9 mask 1\n0 ready 1\n0 ready 0\n"
-    for text, at, line, said in [(WORKED_TEXT, 4, "00 2 00 000\n", "event 5 "), (WORKED_TEXT, 8, "00 2 01 001\n", "event 9 "),
-                                 (WORKED_TEXT, 0, "13 0 00 000\n", "event 1 "), (WORKED_TEXT, 3, "", "9 lines for 10"),
-                                 (WORKED_TEXT, 2, "hello world\n", "no line of the desk"), (tie, 3, "00 2 00 000\n", "event 4 ")]:
-        day = fill(folder / "day", WORKED_SHEET, text)
+    example = ROOT / "examples/editions"
+    halves, half = (example / "shares.txt").read_bytes(), (example / "day.txt").read_text()
+    for sheet, text, at, line, said in [
+        (WORKED_SHEET, WORKED_TEXT, 4, "00 2 00 000\n", "event 5 "), (WORKED_SHEET, WORKED_TEXT, 8, "00 2 01 001\n", "event 9 "),
+        (WORKED_SHEET, WORKED_TEXT, 0, "13 0 00 000\n", "event 1 "), (WORKED_SHEET, WORKED_TEXT, 3, "", "9 lines for 10"),
+        (WORKED_SHEET, WORKED_TEXT, 2, "hello world\n", "no line of the desk"), (WORKED_SHEET, tie, 3, "00 2 00 000\n", "event 4 "),
+        (halves, half, 6, "00 2 01 001\n", "event 7 "), (halves, half, 10, "00 2 01 001\n", "event 11 "),
+    ]:
+        day = fill(folder / "day", sheet, text)
         right = [line.decode() for line in desk_lines(day, records.encode(text.encode()))]
         lines = right[:at] + [line] + right[at + 1:]
         (folder / "bin").mkdir(exist_ok=True)
@@ -455,9 +549,9 @@ def main():
             days += 1
         tight = show(folder / "tight", "--brief").stdout
         expect("partition 0 got 200 cycles or more where 200 are promised (1 stretch of 10 ticks)" in tight, "tight is not tight")
-        for seed in range(24):
+        for seed in range(36):
             window, shares = 2 + seed % 5, ((50, 30, 20), (90, 10), (34, 33, 33, 0))[seed % 3]
-            sheet = sheet_of(window, 400, shares, seed % 2)
+            sheet = sheet_of(window, 400, shares, seed % 2, edition=None if seed < 24 else 1 + seed // 2 % 2)
             data = random_day(seed, window, 400, len(shares), 6, 120, *([(10, 20), (0, 1)] if seed % 4 == 3 else []))
             stretches += counted(folder / f"day{seed}", f"day {seed}", sheet, data)
             days += 1
@@ -472,12 +566,17 @@ def main():
         told += sum(count for count, _ in found)
         words = [word for _, won in found for word in won]
         expect(all(words.count(word) > 30 for word in (STAYS, LOWEST)), f"only so many ties were told: {words.count(STAYS)}, {words.count(LOWEST)}")
+        found = [editions_told(folder / f"editions{seed}", seed) for seed in range(8)]
+        told += sum(count for count, _ in found)
+        words = Counter(word for _, would in found for word in would)
+        expect(all(words[word] > 20 for word in ("1run", "2run", "1underload", "2limit")), f"only so many turned on the edition: {words}")
         expect(stretches > 500, f"only {stretches} stretches were compared")
         starving(folder / "starving")
         example()
         turns()
         places_shown(folder / "places")
         ties_shown()
+        editions_shown(folder / "editions")
         statuses(folder / "statuses")
         for seed in range(40):
             damaged(folder / f"damaged{seed}", seed)

@@ -16,6 +16,8 @@ from records import record
 
 VECTORS = Path(__file__).resolve().parent / "vectors"
 SHEET = b"W 00 000004\nC 00 001000\nP 00 000000\nM 00 000000\nS 00 000050\nS 01 000050\n"
+# the longest sheet: an edition (document 02, (iv)), and 16 partitions
+LONGEST = SHEET[:48] + b"E 00 000002\n" + b"".join(b"S %02d %06d\n" % (p, 85 if p == 0 else 1) for p in range(16))
 
 
 def run(program, sheet, events, piece=0, memory=None):
@@ -95,6 +97,11 @@ def main():
     check("a folder called shares.txt", run(desk, Path, record(1, 0)), refused)
     check("a sheet of a megabyte", run(desk, SHEET * 14000, record(1, 0)), refused)
     check("S 01 0000,5", run(desk, SHEET[:60] + b"S 01 0000,5\n", record(1, 0)), b"02 0 00 000\n")
+    # the longest sheet is taken, and a record more is refused; so is one of its length without the edition
+    check("21 records", run(desk, LONGEST, record(1, 0)), b"00 0 00 255\n")
+    check("22 records", run(desk, LONGEST + b"S 16 000000\n", record(1, 0)), refused)
+    check("22 records and more", run(desk, LONGEST + b"S 16 000000\nS 17 000000\n", record(1, 0)), refused)
+    check("21 records without an edition", run(desk, LONGEST[:48] + LONGEST[60:] + b"S 16 000000\n", record(1, 0)), refused)
 
     # no events, and a cut last one
     check("no events", run(desk, SHEET, b""), b"")
@@ -110,6 +117,17 @@ def main():
         for cut in (0, 7):
             stream = busy(count) + bytes(cut)
             check(f"{count} events and {cut} bytes", run(desk, SHEET, stream), run(reference, SHEET, stream)[0])
+
+    # by the quarter of a tick and by the half
+    stream, answers = busy(5000), []
+    for edition in (1, 2):
+        sheet = SHEET[:48] + b"E 00 %06d\n" % edition + SHEET[48:]
+        answers.append(run(reference, sheet, stream)[0])
+        check(f"edition {edition}", run(desk, sheet, stream), answers[-1])
+    check("edition 1, not stated", run(desk, SHEET, stream), answers[0])
+    if answers[0] == answers[1]:
+        wrong.append("the editions")
+        print("desk: the stream has the same lines in both editions")
 
     # each event is answered before the next one is sent, also where a piece cuts it; only the end of the input makes a cut one 14
     first, second = record(1, 1000), record(1, 2000)

@@ -103,13 +103,13 @@ KNOWN = [
 MORE = {"bytes of 0": 3, "W and C exchanged": 2, "a share of 101": 2, "E for M": 2, "E and nothing right after it": 2,
         "P 2, M 8 and E 3": 3, "a share of 101 with E": 2}
 # what is said of the edition, and the bounds: document 01's example (W 100, C 1000, four partitions, share 10), and the sheet of ten ticks on which
-# two jobs are promised nothing; and both in edition 2, which takes half a tick for each other partition
+# two jobs are promised nothing; and others with an edition, of which edition 2 takes half a tick for each other partition
 BOUNDS = [
-    (written(), "edition 1 (not stated): a job has budget while at least a quarter of a tick (250 cycles) remains", (37750, 17750, 7750, 27750)),
-    (written(window=10), "edition 1 (not stated): a job has budget while at least a quarter of a tick (250 cycles) remains", (1750, -250, -1250, 750)),
-    (written(edition=1), "edition 1: a job has budget while at least a quarter of a tick (250 cycles) remains", (37750, 17750, 7750, 27750)),
-    (written(edition=2), "edition 2: a job has budget while at least half a tick (500 cycles) remains", (38500, 18500, 8500, 28500)),
-    (written(window=10, tick=100, edition=2), "edition 2: a job has budget while at least half a tick (50 cycles) remains", (250, 50, -50, 150)),
+    (written(), "1 (not stated): a job has budget while at least a quarter of a tick (250 cycles) remains", (37750, 17750, 7750, 27750)),
+    (written(window=10), "1 (not stated): a job has budget while at least a quarter of a tick (250 cycles) remains", (1750, -250, -1250, 750)),
+    (written(edition=1), "1: a job has budget while at least a quarter of a tick (250 cycles) remains", (37750, 17750, 7750, 27750)),
+    (written(edition=2), "2: a job has budget while at least half a tick (500 cycles) remains", (38500, 18500, 8500, 28500)),
+    (written(window=10, tick=100, edition=2), "2: a job has budget while at least half a tick (50 cycles) remains", (250, 50, -50, 150)),
 ]
 
 
@@ -194,7 +194,7 @@ def main():
         for data, edition, bounds in BOUNDS:
             path.write_bytes(data)
             done = tool("check", path)
-            expect(done.stdout.decode().splitlines()[1] == edition, f"{data!r}: {edition!r} is not said")
+            expect(done.stdout.decode().splitlines()[1] == f"edition {edition}", f"{data!r}: edition {edition!r} is not said")
             sheet = sheets.read(data)
             expect(done.returncode == 0 and tuple(map(sheet.bound, range(4))) == bounds, f"{data!r} has other bounds than {bounds}")
             for partition, bound in enumerate(bounds):

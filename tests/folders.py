@@ -7,6 +7,7 @@ import subprocess
 from collections import Counter
 from fractions import Fraction
 from pathlib import Path
+from typing import NamedTuple
 
 from records import record
 
@@ -29,9 +30,38 @@ WORKED_TEXT = """0 create 0 partition 0 priority 10 mask 1
 """
 
 
-def sheet_of(window, tick, shares, policy=0, core=0):
+# by the edition of document 02, (iv), None where it is not stated: how many quarters of a tick must remain of a budget, and how many a partition loses
+# in demand 3 for each other one
+REMAINING = {None: 1, 1: 1, 2: 2}
+LOST = {None: 3, 1: 3, 2: 2}
+
+
+def sheet_of(window, tick, shares, policy=0, core=0, edition=None):
     head = "W 00 %06d\nC 00 %06d\nP 00 %06d\nM 00 %06d\n" % (window, tick, policy, core)
+    head += "" if edition is None else "E 00 %06d\n" % edition
     return (head + "".join("S %02d %06d\n" % s for s in enumerate(shares))).encode()
+
+
+class Settings(NamedTuple):
+    window: int
+    tick: int
+    policy: int
+    core: int
+    edition: int
+    shares: list
+
+    def budget(self, p):
+        return self.shares[p] * self.window * self.tick // 100
+
+    def bound(self, p):
+        return self.budget(p) - (len(self.shares) - 1) * LOST[self.edition] * self.tick // 4
+
+
+def settings_of(sheet):
+    """What a sheet says."""
+    values = [int(sheet[i + 5:i + 11]) for i in range(0, len(sheet), 12)]
+    edition = values.pop(4) if sheet[48:49] == b"E" else None
+    return Settings(*values[:4], edition, values[4:])
 
 
 def fill(folder, sheet=None, text=None, data=None, names=None):
@@ -88,8 +118,8 @@ class Judged:
     """What a day's events and lines say, accepted event by accepted event."""
 
     def __init__(self, sheet, data, lines):
-        values = [int(sheet[i + 5:i + 11]) for i in range(0, len(sheet), 12)]
-        self.window, self.tick, _, self.core, *self.shares = values
+        self.settings = settings_of(sheet)
+        self.window, self.tick, self.shares = self.settings.window, self.settings.tick, self.settings.shares
         self.kinds, self.elapsed, self.ran, self.waiting = [], [], [], []
         known, old, running = {}, 0, None
         for at, line in enumerate(lines):
@@ -105,7 +135,7 @@ class Judged:
             if kind in (3, 4):
                 known[thread][2] = kind == 3
             # who wants the processor after this event
-            self.waiting.append({t[0] for t in known.values() if t and t[2] and t[1] >> self.core & 1})
+            self.waiting.append({t[0] for t in known.values() if t and t[2] and t[1] >> self.settings.core & 1})
             old, running = stamp, None if line[3:4] == b"0" else int(line[5:7])
 
     def charged(self, p):
@@ -130,7 +160,7 @@ class Judged:
         return best
 
     def bound(self, p):
-        return self.shares[p] * self.window * self.tick // 100 - (len(self.shares) - 1) * 3 * self.tick // 4
+        return self.settings.bound(p)
 
     def stretches(self, p):
         """What p was charged in each stretch in which it always wanted the processor."""
@@ -187,13 +217,20 @@ def places(data, lines):
         yield did, line, [t for t in line if moved[t] == "raised"], [t for t in line if moved[t] == "lowered"]
 
 
-def ties(sheet, data, lines):
-    """For each event, from events and lines alone, as document 01 ("The decision") and document 02, (iii), put it: the partition that ran until it,
-    None where the processor idled, and those that are tied for best after it. A refused event leaves both as they were."""
-    window, tick, policy, core, *shares = (int(sheet[i + 5:i + 11]) for i in range(0, len(sheet), 12))
-    budgets = [share * window * tick // 100 for share in shares]
+class Account(NamedTuple):
+    """What a decision is made from: the partition that ran until the last accepted event, None where the processor idled; what each partition has used
+    of the window; and the threads in the line, each as its number, partition, mask and priority."""
+    ran: int
+    used: Counter
+    ready: list
+
+
+def accounts(sheet, data, lines):
+    """For each event, from events and lines alone, as document 01 ("Charging and the window") puts it, the account after it. A refused event leaves it
+    as it was."""
+    settings = settings_of(sheet)
     known, charges, old, running = {}, [Counter()], 0, None  # charges: of each tick period since the last resume
-    ran, best = None, []
+    account = Account(None, Counter(), [])
     for at, (text, (_, line, _, _)) in enumerate(zip(lines, places(data, lines))):
         if text[:2] == b"00":
             kind, thread, partition, priority, *_, mask = data[12 * at:12 * at + 9]
@@ -204,30 +241,58 @@ def ties(sheet, data, lines):
             elif kind == 1:
                 charges.append(Counter())
             elif kind == 2:
-                known[thread] = partition, mask, priority
+                known[thread] = thread, partition, mask, priority
             elif kind == 5:
-                known[thread] = *known[thread][:2], priority
-            ran, best = running, tied_for_best(budgets, sum(charges[-window:], Counter()), tick, policy, [known[t] for t in line], core)
+                known[thread] = *known[thread][:3], priority
+            account = Account(running, sum(charges[-settings.window:], Counter()), [known[t] for t in line])
             old, running = stamp, None if text[3:4] == b"0" else int(text[5:7])
-        yield ran, best
+        yield account
 
 
-def tied_for_best(budgets, used, tick, policy, ready, core):
-    """The partitions that no other is better than, of those with a ready thread that the core may run."""
-    top = {}
-    for partition, mask, priority in ready:
-        if mask >> core & 1:
+def ties(sheet, data, lines):
+    """For each event the partition that ran until it, None where the processor idled, and those that are tied for best after it (document 02, (iii)).
+    A refused event leaves both as they were."""
+    settings = settings_of(sheet)
+    for account in accounts(sheet, data, lines):
+        yield account.ran, tied_for_best(settings, account, settings.edition)[1]
+
+
+def editions(sheet, data, lines):
+    """For each event mode, partition and thread as each edition of the budget test decides after it, by the edition's number (document 02, (iv))."""
+    settings = settings_of(sheet)
+    for account in accounts(sheet, data, lines):
+        yield {edition: decided(settings, account, edition) for edition in (1, 2)}
+
+
+def decided(settings, account, edition):
+    """Mode, partition and thread: of those tied for best the one that ran, otherwise the lowest number; in it the first with the top priority."""
+    mode, best = tied_for_best(settings, account, edition)
+    if not best:
+        return 0, 0, 255
+    won = account.ran if account.ran in best else best[0]
+    threads = [(-priority, at, t) for at, (t, p, mask, priority) in enumerate(account.ready) if p == won and mask >> settings.core & 1]
+    return mode, won, min(threads)[2]
+
+
+def tied_for_best(settings, account, edition):
+    """The mode, and the partitions that no other is better than, of those with a ready thread that the core may run."""
+    top, used = {}, account.used
+    for _, partition, mask, priority in account.ready:
+        if mask >> settings.core & 1:
             top[partition] = max(priority, top.get(partition, 0))
-    has_budget = {p: 4 * (budgets[p] - used[p]) >= tick for p in top}
+    if not top:
+        return 0, []
+    budgets = [settings.budget(p) for p in range(len(settings.shares))]
+    has_budget = {p: 4 * (budgets[p] - used[p]) >= REMAINING[edition] * settings.tick for p in top}
     fraction = {p: Fraction(used[p], budgets[p]) if budgets[p] else float("inf") for p in top}
-    free_time = any(budget and p not in top for p, budget in enumerate(budgets))
-    if not free_time and not any(has_budget.values()):
+    mode = 1 if any(budget and p not in top for p, budget in enumerate(budgets)) else 2 if any(has_budget.values()) else 3
+    if mode == 3:
         order = {p: (fraction[p],) for p in top}
-    elif free_time and policy == 1:
+    elif mode == 1 and settings.policy == 1:
         order = {p: (not has_budget[p], fraction[p]) for p in top}
     else:
         order = {p: (not has_budget[p], -top[p], fraction[p]) for p in top}
-    return [p for p in sorted(top) if order[p] == min(order.values())]
+    return mode, [p for p in sorted(top) if order[p] == min(order.values())]
 
 
 def desk_lines(folder, data):

@@ -1,12 +1,14 @@
 #!/usr/bin/env python3
 """Document 01's example of the guarantee, on a hostile list of events: W 100, C 1000, four partitions, share 10: at least 7,750 cycles
-in 200 ticks, three quarters of a tick less than the budget for each other partition; in edition 2 (document 02, (iv)) half a tick less, so at least
-8,500. The partition with 10 percent waits throughout, at the lowest priority, in every other list with two threads that take turns and are
+in 200 ticks. The partition with 10 percent waits throughout, at the lowest priority, in every other list with two threads that take turns and are
 raised and lowered to each other's priority; the others wake, sleep and change priority so as to run past their budgets. In every third list all have
 one priority, and the waiting partition loses ties to others that ran. What was charged is worked out here from the events and the printed lines
-alone. And two lists on which the bound is reached exactly, made for another scheduler, both with W 5 and C 100: partition 0 waits throughout, and
-between the ticks at 1000 and 2000 it gets 200, and not one more. In tests/vectors/tight its share is 70, and it is promised 350 less twice 75; in
-tests/vectors/editions-tight, in edition 2, its share is 60, and it is promised 300 less twice 50.
+alone. The same with edition 2 on the sheet (document 02, (iv)), where 10,000 less three times 500 are promised.
+
+And two lists on which the bound is reached exactly, made for another scheduler. tests/vectors/tight: W 5, C 100, shares 70, 25 and 5; partition 0
+waits throughout, is promised 350 less twice 75, and between the ticks at 1000 and 2000 gets 200, and not one more. tests/vectors/editions-tight: the
+same with shares 60, 30 and 10 and edition 2, by which 300 less twice 50 are promised. The events of the first one with edition 2 on its sheet: 350 less
+twice 50 are promised, and who decides by the quarter of a tick all the same gives 200.
 
     tests/guarantee.py DESK
 """
@@ -16,17 +18,16 @@ import sys
 import tempfile
 from pathlib import Path
 
-from folders import ties
+from folders import sheet_of, ties
 from records import record
 
 WINDOW, TICK = 100, 1000
 SHARES = (40, 10, 25, 25)
-WAITING = 1
-BOUNDS = {"": 7750, "E 00 000002\n": 8500}  # by the sheet's record of the edition
+WAITING, BOUND = 1, {None: 7750, 2: 8500}  # by the edition on the sheet
 SECOND = 4  # the waiting partition's second thread
 VECTORS = Path(__file__).resolve().parent / "vectors"
-TIGHT = ["tight", "editions-tight"]
 TIGHT_WINDOW, TIGHT_TICK, TIGHT_WAITING, TIGHT_BOUND = 5, 100, 0, 200
+TIGHT_IN_EDITION_2 = 250
 
 
 def hostile(rate, seed, rounds, policy, equal):
@@ -99,20 +100,19 @@ def lost_ties(sheet, data, lines):
     return sum(WAITING in best and ran in best and WAITING < ran == int(line[5:7]) for line, (ran, best) in zip(lines, ties(sheet, data, lines)))
 
 
-def tight(desk, name):
-    """What the waiting partition is charged in each stretch of a tight list."""
-    events = (VECTORS / name / "events.bin").read_bytes()
+def tight(desk, name, change=lambda sheet: sheet):
+    """The least that the waiting partition is charged in a stretch of a tight list."""
+    sheet, events = change((VECTORS / name / "shares.txt").read_bytes()), (VECTORS / name / "events.bin").read_bytes()
     moments = [(events[i], int.from_bytes(events[i + 4:i + 8], "little")) for i in range(0, len(events), 12)]
-    lines = printed(desk, (VECTORS / name / "shares.txt").read_bytes(), events)
-    return list(stretches(moments, lines, TIGHT_WINDOW, TIGHT_TICK, TIGHT_WAITING))
+    return min(stretches(moments, printed(desk, sheet, events), TIGHT_WINDOW, TIGHT_TICK, TIGHT_WAITING))
 
 
-def charged(desk, edition):
-    """What the waiting partition is charged in each stretch of hostile lists, whether its second thread ever ran, and the ties that it lost."""
+def beset(desk, edition):
+    """What the waiting partition is charged in each stretch of the hostile lists, under both policies; and whether its second thread ran, and how often
+    it lost a tie."""
     found, took_turns, lost = [], False, 0
     for policy in (0, 1):
-        head = "W 00 %06d\nC 00 %06d\nP 00 %06d\nM 00 000000\n" % (WINDOW, TICK, policy)
-        sheet = (head + edition + "".join("S %02d %06d\n" % s for s in enumerate(SHARES))).encode()
+        sheet = sheet_of(WINDOW, TICK, SHARES, policy, edition=edition)
         for seed in range(140):
             events = hostile(seed % 7, seed, 6, seed % 2, seed % 3 == 0)
             data = b"".join(e[1] for e in events)
@@ -124,22 +124,23 @@ def charged(desk, edition):
 
 
 def main():
-    desk, wrong = Path(sys.argv[1]).resolve(), False
-    for edition, bound in BOUNDS.items():
-        found, took_turns, lost = charged(desk, edition)
-        sheets = "in edition 2" if edition else "where no edition is stated"
-        print(f"guarantee: {sheets}, at least {min(found)} cycles in each of {len(found)} stretches of 200 ticks; {bound} are promised")
+    desk, wrong = Path(sys.argv[1]).resolve(), 0
+    for edition, bound in BOUND.items():
+        found, took_turns, lost = beset(desk, edition)
+        with_edition = f" with edition {edition}" if edition else ""
+        print(f"guarantee: at least {min(found)} cycles in each of {len(found)} stretches of 200 ticks{with_edition}; {bound} are promised")
         if not took_turns:
-            print("guarantee: the waiting partition's second thread never ran")
+            print(f"guarantee: the waiting partition's second thread never ran{with_edition}")
         if not lost:
-            print("guarantee: the waiting partition never lost a tie to one of a higher number")
-        wrong |= min(found) < bound or not took_turns or not lost
-    for name in TIGHT:
-        reached = tight(desk, name)
-        print(f"guarantee: {name}: {min(reached)} cycles in the tightest of {len(reached)} stretches of {2 * TIGHT_WINDOW} ticks; "
-              f"{TIGHT_BOUND} are promised")
-        wrong |= min(reached) != TIGHT_BOUND
-    sys.exit(wrong)
+            print(f"guarantee: the waiting partition never lost a tie to one of a higher number{with_edition}")
+        wrong += min(found) < bound or not took_turns or not lost
+    for name in ("tight", "editions-tight"):
+        least = tight(desk, name)
+        print(f"guarantee: {least} cycles in the tightest stretch of {2 * TIGHT_WINDOW} ticks of {name}; {TIGHT_BOUND} are promised")
+        wrong += least != TIGHT_BOUND
+    least = tight(desk, "tight", lambda sheet: sheet[:48] + b"E 00 000002\n" + sheet[48:])
+    print(f"guarantee: {least} cycles there in edition 2; {TIGHT_IN_EDITION_2} are promised")
+    sys.exit(bool(wrong) or least < TIGHT_IN_EDITION_2)
 
 
 if __name__ == "__main__":

@@ -1,6 +1,6 @@
 #!/usr/bin/env python3
-"""Runs checksheet on sheets whose answer document 01, or document 02, (iv), gives: each refusal number, and each limit from both sides. A sheet that is
-right comes back as it is: without an edition, and with edition 1 or 2."""
+"""Runs checksheet on sheets whose answer document 01, or document 02, (iv), gives: each refusal number, and each limit from both sides. A sheet that
+is right comes back as it is, with an edition and without."""
 import subprocess
 import sys
 from pathlib import Path

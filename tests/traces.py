@@ -113,6 +113,23 @@ def kept(folder):
         expect(found == [(1000 * start, 1000 * end, name) for start, end, name in wanted], f"{thread} has the slices {found}")
 
 
+# the threads in the example of editions, by hand, in thousands of cycles: the radio's, and the screen's, which has the higher priority
+EDITIONS = {
+    ("radio", "thread 0"): [(0, 2, "waiting"), (2, 4, "running"), (4, 6, "waiting"), (6, 8, "running"), (8, 9.4, "waiting"), (10, 11, "running")],
+    ("screen", "thread 1"): [(0, 2, "running"), (2, 4, "waiting"), (4, 6, "running"), (6, 8, "waiting"), (8, 10, "running"), (10, 11, "waiting")],
+}
+
+
+def half(folder):
+    """The example of editions: the screen stops running where less than half a tick remains of its budget."""
+    shutil.copytree(ROOT / "examples/editions", folder)
+    trace = Trace(folder)
+    for track, wanted in EDITIONS.items():
+        expect(trace.slices[track] == [(1000 * start, 1000 * end, name) for start, end, name in wanted], f"{track} has {trace.slices[track]}")
+    remaining = dict(trace.counters["screen", "remaining"])
+    expect([remaining[time] for time in (1900, 2000, 4950)] == [500, 400, 450], f"what remains to the screen is {remaining}")
+
+
 def measured(folder, seed):
     sheet, data = sheet_of(4, 400, (50, 30, 20)), random_day(seed, 4, 400, 3, 6, 300, *([(10, 20), (0, 1)] if seed % 2 else []))
     trace = Trace(fill(folder, sheet, data=data))
@@ -142,9 +159,10 @@ def main():
         turns(Path(name) / "turns")
         moved(Path(name) / "places")
         kept(Path(name) / "ties")
+        half(Path(name) / "editions")
         for seed in range(10):
             measured(Path(name) / f"day{seed}", seed)
-    print(f"traces: the traces of 14 days, {expect.wrong} things wrong")
+    print(f"traces: the traces of 15 days, {expect.wrong} things wrong")
     sys.exit(expect.wrong != 0)
 
 

@@ -1,5 +1,5 @@
-"""Why a share sheet is refused: the number by document 01's table, with the E record of document 02, (iv), and for each fault its line, its column and
-its cause in a sentence.
+"""Why a share sheet is refused: the number by document 01's table, with the E record of document 02, (iv), and for each fault its line, its column
+and its cause in a sentence.
 
 The number is only foretold here. The proved program says it, and the tools that explain a sheet compare the two.
 """

@@ -53,7 +53,7 @@ class Sheet:
         return f"{words} ({count(self.need(edition))} cycles)"
 
     def bound(self, partition):
-        """What demand 3 promises in a stretch; nothing where it is not above 0. Each other partition may overdraw by what need not remain of a tick."""
+        """What demand 3 promises in a stretch; nothing where it is not above 0. Each other partition may overdraw by a tick less what must remain."""
         return self.budget(partition) - (self.tick - self.need()) * (len(self.shares) - 1)
 
     def stretch(self):

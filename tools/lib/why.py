@@ -27,8 +27,9 @@ def edition(scheduler, names):
     if sheet.edition_stated:
         yield f"edition {sheet.edition}: a job has budget while at least {sheet.need_in_words()} remains"
     if other is not None:
-        yield (f"the edition tells here: in edition {sheet.other_edition}, where {sheet.need_in_words(sheet.other_edition)} must remain, it would be "
-               f"mode {other.mode}, {MODES[other.mode]}, and {names[other.partition]} would run (thread {other.thread})")
+        need = sheet.need_in_words(sheet.other_edition)
+        yield (f"the decision turns on that: in edition {sheet.other_edition}, where {need} must remain, it would be mode {other.mode}, "
+               f"{MODES[other.mode]}, and {names[other.partition]} would run (thread {other.thread})")
 
 
 def favour(step, names):
