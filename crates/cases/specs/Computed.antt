@@ -25,11 +25,11 @@ use Rattle.model.specs.Answers.{Line, answerLine, Remainder}
 -- the number by which a sheet's bytes are refused
 unfoldable pub sheetNumber : List ℕ → ℕ
 unfolding Lists.below Lists.any Lists.all Lists.keep Lists.first Lists.maximum Lists.distinct
-    Units.budgetOf Units.elapsedOf Units.remainingOf Units.hasBudgetOf Units.compareNumbers Units.compareFlags Units.compareFractions
-    Limits.windowFits Limits.tickFits Limits.policyAndCoreFit Limits.countFits Limits.refusedNumbers
+    Units.budgetOf Units.elapsedOf Units.remainingOf Units.needOf Units.hasBudgetOf Units.compareNumbers Units.compareFlags Units.compareFractions
+    Limits.windowFits Limits.tickFits Limits.policyAndCoreFit Limits.editionFits Limits.countFits Limits.refusedNumbers
     Records.numberFrom Records.framed Records.fieldOf Records.digitsOf Records.recordOf
-    Order.letterAt Order.wholeRecords Order.fieldAt Order.valueAt Order.recordsFormed Order.recordsOf
-    Settings.budget Settings.sharesFit Settings.withinLimits Settings.refusedSettings
+    Order.letterAt Order.headOf Order.wholeRecords Order.fieldAt Order.valueAt Order.recordsFormed Order.recordsOf
+    Settings.budget Settings.need Settings.sharesFit Settings.withinLimits Settings.refusedSettings
     Sheet.settingsOf Sheet.refusedSheet Sheet.valueOf Sheet.sheetOf Sheet.refusedWrite Sheet.lengthWritten Sheet.bufferWritten
 sheetNumber bytes = Sheet.refusedSheet bytes
 

@@ -137,6 +137,8 @@ third =
       tick = record { 0 = 1000 };
       policy = 0;
       core = 0;
+      edition = 1;
+      stated = 0;
       count = 2;
       shares = percents (50 ∷ 50 ∷ 1 ∷ []);
     }
@@ -243,7 +245,7 @@ zeros n = replicate n 0
 abbrev pub lentAs : ℕ → ℕ → ℕ → ℕ → List ℕ → Lent
 lentAs flag o l x history =
     record {
-      settings = 2 ∷ 1000 ∷ 0 ∷ 0 ∷ 2 ∷ [];
+      settings = 2 ∷ 1000 ∷ 0 ∷ 0 ∷ 1 ∷ 0 ∷ 2 ∷ [];
       shares = 50 ∷ 50 ∷ zeros 14;
       used = x ∷ zeros 15;
       clock = x ∷ 0 ∷ x ∷ 1 ∷ 0 ∷ [];

@@ -29,7 +29,7 @@ tie a b c running winner = record { priorities = three 61 a b c; running = runni
 abbrev pub lentFor : Tie → Lent
 lentFor x =
     record {
-      settings = 2 ∷ 1000 ∷ 0 ∷ 0 ∷ 3 ∷ [];
+      settings = 2 ∷ 1000 ∷ 0 ∷ 0 ∷ 1 ∷ 0 ∷ 3 ∷ [];
       shares = three 13 34 33 33;
       used = replicate 16 0;
       clock = 0 ∷ 0 ∷ 0 ∷ 3 ∷ x .running ∷ [];

@@ -9,10 +9,26 @@ use Rattle.model.specs.Answers.{Line}
 abbrev pub percents : List ℕ → List Percent
 percents ns = take 16 (map (λ n. record { 0 = n }) ns ++ replicate 16 (record { 0 = 0 }))
 
--- settings: W, C, P, M and the shares
+-- settings by E and whether it is stated; W, C, P, M and the shares
+abbrev pub kitIn : ℕ → ℕ → ℕ → ℕ → ℕ → ℕ → List ℕ → Settings
+kitIn edition stated w c policy core shares =
+    record {
+      window = record { 0 = w };
+      tick = record { 0 = c };
+      policy = policy;
+      core = core;
+      edition = edition;
+      stated = stated;
+      count = length shares;
+      shares = percents shares;
+    }
+
+-- where no E is stated: W, C, P, M and the shares; and where this one is
 abbrev pub kit : ℕ → ℕ → ℕ → ℕ → List ℕ → Settings
-kit w c policy core shares =
-    record { window = record { 0 = w }; tick = record { 0 = c }; policy = policy; core = core; count = length shares; shares = percents shares }
+kit w c policy core shares = kitIn 1 0 w c policy core shares
+
+abbrev pub kitOf : ℕ → ℕ → ℕ → ℕ → ℕ → List ℕ → Settings
+kitOf edition w c policy core shares = kitIn edition 1 w c policy core shares
 
 -- a tick of 1000 cycles, policy 0, core 0, two partitions with half the processor each
 abbrev pub halves : ℕ → Settings
