@@ -1,5 +1,5 @@
--- THE TESTS: the runs of Runs give their lines, the threads of Places stand where they must, the ties of Ties are won by whom they must, and the
--- numbers of Refusals are the paper's, by computation.
+-- THE TESTS: the runs of Runs give their lines, the threads of Places stand where they must, the ties of Ties are won by whom they must, the sheets
+-- of Editions say what they must and are written back, and the numbers of Refusals are the paper's, by computation.
 use mathlib.Core.Path.{_≡_, refl}
 use mathlib.Core.List.{[], _∷_, map}
 use lib.ListN.{take, drop}
@@ -7,10 +7,11 @@ use lib.IntN.{pos, negsuc}
 use Rattle.model.specs.Doors.{decision}
 use Rattle.cases.specs.Written.{line, refusal}
 use Rattle.cases.specs.Computed.{lines, remains}
-use Rattle.cases.specs.Runs.{computed, expected, runs, slices, changes, ties}
+use Rattle.cases.specs.Runs.{computed, expected, runs, slices, changes, ties, editions}
 use Rattle.cases.specs.Places.{lineAfter, places}
 use Rattle.cases.specs.Ties.{answersOf, linesOf, given}
-use Rattle.cases.specs.Refusals.{computedOf, papersOf, kinds, reserved, states, soundness, events, sheets, doors, buffer, zeros, lent, lentAs, left, none}
+use Rattle.cases.specs.Editions
+use Rattle.cases.specs.Refusals.{computedOf, papersOf, kinds, reserved, states, soundness, events, sheets, doors, buffer, zeros, lent, lentAs, lentIn, left, none}
 
 every-run : map computed runs ≡ map expected runs
 unfolding lines
@@ -27,6 +28,10 @@ every-change = refl
 every-tie : map computed ties ≡ map expected ties
 unfolding lines
 every-tie = refl
+
+every-edition : map computed editions ≡ map expected editions
+unfolding lines
+every-edition = refl
 
 every-place : map lineAfter places ≡ map (λ p. p .line) places
 unfolding lines
@@ -60,6 +65,10 @@ every-sheet : computedOf sheets ≡ papersOf sheets
 unfolding remains
 every-sheet = refl
 
+every-stated-edition : map Editions.readOf Editions.sheets ≡ map Editions.wantedOf Editions.sheets
+unfolding remains
+every-stated-edition = refl
+
 -- what is written into a buffer: `W 00 000002`; `S 01 000050`, and what was there before
 first-record : take 12 buffer ≡ 87 ∷ 32 ∷ 48 ∷ 48 ∷ 32 ∷ 48 ∷ 48 ∷ 48 ∷ 48 ∷ 48 ∷ 50 ∷ 10 ∷ []
 unfolding lines
@@ -82,8 +91,18 @@ every-door : computedOf doors ≡ papersOf doors
 unfolding remains
 every-door = refl
 
+-- the edition leaves what remains as it is
+in-edition-2 : map (remains (lentIn 2 1 5 (5 ∷ zeros 3))) (0 ∷ 1 ∷ []) ≡ left (pos 995) ∷ left (pos 1000) ∷ []
+unfolding remains
+in-edition-2 = refl
+
 -- the decision door
 decisions : map decision (lent 1 5 (5 ∷ zeros 3) ∷ lent 1 5 (5 ∷ zeros 2) ∷ lent 2 5 (5 ∷ zeros 3) ∷ lentAs 1 1 1 5 (5 ∷ zeros 3) ∷ lentAs 1 1 0 5 (5 ∷ zeros 3) ∷ [])
     ≡ line 0 1 0 0 ∷ refusal 7 ∷ refusal 8 ∷ line 0 1 0 0 ∷ refusal 8 ∷ []
 unfolding remains
 decisions = refl
+
+editions-decided : map decision (lentIn 2 1 5 (5 ∷ zeros 3) ∷ lentIn 1 1 5 (5 ∷ zeros 3) ∷ lentIn 2 0 5 (5 ∷ zeros 3) ∷ lentIn 2 0 5 (5 ∷ zeros 2) ∷ [])
+    ≡ line 0 1 0 0 ∷ line 0 1 0 0 ∷ refusal 8 ∷ refusal 8 ∷ []
+unfolding remains
+editions-decided = refl

@@ -30,7 +30,7 @@ unfolding Lists.below Lists.any Lists.all Lists.keep Lists.first Lists.maximum L
     Records.numberFrom Records.framed Records.fieldOf Records.digitsOf Records.recordOf
     Order.letterAt Order.headOf Order.wholeRecords Order.fieldAt Order.valueAt Order.recordsFormed Order.recordsOf
     Settings.budget Settings.need Settings.sharesFit Settings.withinLimits Settings.refusedSettings
-    Sheet.settingsOf Sheet.refusedSheet Sheet.valueOf Sheet.sheetOf Sheet.refusedWrite Sheet.lengthWritten Sheet.bufferWritten
+    Sheet.settingsOf Sheet.refusedSheet Sheet.settingsRead Sheet.valueOf Sheet.sheetOf Sheet.refusedWrite Sheet.lengthWritten Sheet.bufferWritten
 sheetNumber bytes = Sheet.refusedSheet bytes
 
 -- the decision for a state, where a partition is favoured, or none

@@ -34,14 +34,14 @@ put t n q = record { thread = t; priority = n; line = q }
 abbrev pub lineAfter : Place → List ℕ
 lineAfter p = queueOf (answer (saved standing (replicate 4 0)) (setPriority (p .thread) (p .priority) 0) .after .state)
 
-abbrev pub sameThreads : List ℕ → List ℕ → Bool
-sameThreads [] [] = true
-sameThreads [] (u ∷ us) = false
-sameThreads (t ∷ ts) [] = false
-sameThreads (t ∷ ts) (u ∷ us) = eqb t u && sameThreads ts us
+abbrev pub sameNumbers : List ℕ → List ℕ → Bool
+sameNumbers [] [] = true
+sameNumbers [] (u ∷ us) = false
+sameNumbers (t ∷ ts) [] = false
+sameNumbers (t ∷ ts) (u ∷ us) = eqb t u && sameNumbers ts us
 
 abbrev pub stand : List Place → Bool
-stand l = all (λ p. sameThreads (lineAfter p) (p .line)) l
+stand l = all (λ p. sameNumbers (lineAfter p) (p .line)) l
 
 abbrev pub places : List Place
 places =

@@ -18,7 +18,7 @@ use Rattle.model.specs.Answers.{Remainder}
 use Rattle.model.specs.Arrays.{columns}
 use Rattle.model.specs.Lent.{Lent}
 use Rattle.model.specs.Doors.{refusedStart}
-use Rattle.cases.specs.Written.{percents, kit, halves, event, tick, create, createOn, createAs, ready, block, setPriority, end, resume}
+use Rattle.cases.specs.Written.{percents, kit, kitIn, kitWith, halves, event, tick, create, createOn, createAs, ready, block, setPriority, end, resume}
 use Rattle.cases.specs.Computed.{sheetNumber, remains}
 
 infix 70 _is_
@@ -82,6 +82,10 @@ unsound n = saved (withUsed (freshState (halves 2)) (record { 0 = 1 } ∷ replic
 abbrev pub short : Saved
 short = saved (freshState (halves 2)) (replicate 3 0)
 
+-- the number by which a fresh state of this edition, stated (1) or not (0), is refused beside a history of so many numbers; four are wanted
+abbrev pub inEdition : ℕ → ℕ → ℕ → ℕ
+inEdition edition stated n = refusedState (freshState (kitWith edition stated 2 1000 0 0 (50 ∷ 50 ∷ []))) (replicate n 0)
+
 -- eleven of the bytes
 abbrev pub cut : List ℕ → List ℕ
 cut b = take 11 b
@@ -91,6 +95,12 @@ abbrev pub states : List Number
 states =
     refusedState begun (replicate 4 0) is 0 ∷ on short (tick 0) is 7 ∷ on (unsound 4) (tick 0) is 8 ∷ on wrongSettings (tick 0) is 8
     ∷ on (unsound 3) (tick 0) is 7 ∷ on short (cut (tick 0)) is 7 ∷ on (unsound 4) (cut (tick 0)) is 8
+    -- "1 for the quarter and 2 for the half"; "Where no E is stated, only 1 is within limits: .. 8 in a given state"; and stated or not is 1 or 0
+    ∷ inEdition 1 0 4 is 0 ∷ inEdition 1 1 4 is 0 ∷ inEdition 2 1 4 is 0 ∷ inEdition 2 0 4 is 8 ∷ inEdition 0 0 4 is 8 ∷ inEdition 0 1 4 is 8
+    ∷ inEdition 3 0 4 is 8 ∷ inEdition 3 1 4 is 8 ∷ inEdition 1 2 4 is 8 ∷ inEdition 2 2 4 is 8 ∷ inEdition 1 4294967295 4 is 8
+    -- 8 of the edition before 7, too
+    ∷ inEdition 1 0 3 is 7 ∷ inEdition 1 1 3 is 7 ∷ inEdition 2 1 3 is 7 ∷ inEdition 2 0 3 is 8 ∷ inEdition 0 0 3 is 8 ∷ inEdition 3 1 3 is 8
+    ∷ inEdition 1 2 3 is 8 ∷ inEdition 0 0 0 is 8
     ∷ []
 
 -- ---- "Sound means": a state for each clause that is on the wrong side of it, and some on the right side
@@ -209,6 +219,10 @@ with bytes i b = set bytes i b
 abbrev pub whole : List ℕ
 whole = sheetOf (kit 4 1000 0 0 (95 ∷ 5 ∷ []))
 
+-- the number by which two halves of this edition, stated (1) or not (0), are refused in writing them into so many bytes
+abbrev pub written : ℕ → ℕ → ℕ → ℕ
+written edition stated n = refusedWrite (kitWith edition stated 2 1000 0 0 (50 ∷ 50 ∷ [])) n
+
 abbrev pub sheets : List Number
 sheets =
     -- each alone: 59 bytes; 4 and 21 records; a letter, a space, a line feed, a two-digit number; `S 01 0000,5`
@@ -229,6 +243,16 @@ sheets =
     ∷ refusedWrite (kit 1 1000 0 0 []) 0 is 1 ∷ refusedWrite (kit 1 150 0 0 (100 ∷ [])) 60 is 3 ∷ refusedWrite (kit 4 150 2 0 (100 ∷ [])) 60 is 4
     ∷ refusedWrite (kit 4 1000 2 0 (99 ∷ [])) 60 is 5 ∷ refusedWrite (kit 4 1000 0 0 (99 ∷ [])) 0 is 6 ∷ refusedWrite (halves 2) 71 is 7
     ∷ refusedWrite (halves 2) 72 is 0 ∷ lengthWritten (halves 2) 71 is 0 ∷ lengthWritten (halves 2) 80 is 72
+    -- "a stated 1 is written back too": a record more
+    ∷ written 1 1 83 is 7 ∷ written 1 1 84 is 0 ∷ written 2 1 83 is 7 ∷ written 2 1 84 is 0 ∷ written 1 0 72 is 0
+    ∷ lengthWritten (kitIn 1 2 1000 0 0 (50 ∷ 50 ∷ [])) 84 is 84 ∷ lengthWritten (kitIn 2 2 1000 0 0 (50 ∷ 50 ∷ [])) 83 is 0
+    -- "Where no E is stated, only 1 is within limits: 5 in writing"; "E other than 1 or 2 gives 5"; a flag that is neither 0 nor 1; 5 before 7
+    ∷ written 2 0 84 is 5 ∷ written 0 0 84 is 5 ∷ written 3 0 84 is 5 ∷ written 0 1 84 is 5 ∷ written 3 1 84 is 5 ∷ written 1 2 96 is 5
+    ∷ written 2 2 96 is 5 ∷ written 1 4294967295 96 is 5 ∷ written 2 0 0 is 5
+    -- 1, 3, 4 before 5; P beside E; 5 before 6
+    ∷ refusedWrite (kitWith 2 0 2 1000 0 0 []) 84 is 1 ∷ refusedWrite (kitWith 2 0 1 1000 0 0 (100 ∷ [])) 84 is 3
+    ∷ refusedWrite (kitWith 2 0 4 150 0 0 (100 ∷ [])) 84 is 4 ∷ refusedWrite (kitWith 2 0 4 1000 2 0 (100 ∷ [])) 84 is 5
+    ∷ refusedWrite (kitWith 2 0 4 1000 0 0 (99 ∷ [])) 84 is 5 ∷ refusedWrite (kitWith 2 1 4 1000 0 0 (99 ∷ [])) 84 is 6
     ∷ []
 
 -- a sheet of 72 bytes, written into 74
@@ -240,12 +264,12 @@ buffer = bufferWritten (halves 2) (replicate 74 7)
 abbrev pub zeros : ℕ → List ℕ
 zeros n = replicate n 0
 
--- what is lent for two halves of W 2, C 1000, one thread (0, in partition 0, on core 0), the flag, policy and slice of which are given, and no
--- more; partition 0 was charged x since the last tick
-abbrev pub lentAs : ℕ → ℕ → ℕ → ℕ → List ℕ → Lent
-lentAs flag o l x history =
+-- what is lent for two halves of W 2, C 1000, with E and whether it is stated, one thread (0, in partition 0, on core 0), the flag, policy and
+-- slice of which are given, and no more; partition 0 was charged x since the last tick
+abbrev pub lentWith : ℕ → ℕ → ℕ → ℕ → ℕ → ℕ → List ℕ → Lent
+lentWith edition stated flag o l x history =
     record {
-      settings = 2 ∷ 1000 ∷ 0 ∷ 0 ∷ 1 ∷ 0 ∷ 2 ∷ [];
+      settings = 2 ∷ 1000 ∷ 0 ∷ 0 ∷ edition ∷ stated ∷ 2 ∷ [];
       shares = 50 ∷ 50 ∷ zeros 14;
       used = x ∷ zeros 15;
       clock = x ∷ 0 ∷ x ∷ 1 ∷ 0 ∷ [];
@@ -254,9 +278,17 @@ lentAs flag o l x history =
       history = history;
     }
 
--- first in, first out
+-- where no edition is stated
+abbrev pub lentAs : ℕ → ℕ → ℕ → ℕ → List ℕ → Lent
+lentAs flag o l x history = lentWith 1 0 flag o l x history
+
+-- and first in, first out
 abbrev pub lent : ℕ → ℕ → List ℕ → Lent
 lent flag x history = lentAs flag 0 0 x history
+
+-- the same of an edition, stated (1) or not (0)
+abbrev pub lentIn : ℕ → ℕ → ℕ → List ℕ → Lent
+lentIn edition stated x history = lentWith edition stated 1 0 0 x history
 
 abbrev pub left : ℤ → Remainder
 left z = record { refusal = 0; remaining = z }
@@ -273,4 +305,10 @@ doors =
     ∷ remains (lent 2 5 (5 ∷ zeros 3)) 2 .refusal is 8 ∷ remains (lentAs 1 2 0 5 (5 ∷ zeros 3)) 2 .refusal is 8
     ∷ remains (lentAs 1 1 4 5 (5 ∷ zeros 3)) 1 .refusal is 0 ∷ remains (lentAs 1 4 1 5 (5 ∷ zeros 3)) 2 .refusal is 8
     ∷ remains (lentAs 1 1 5 5 (5 ∷ zeros 3)) 2 .refusal is 8
+    -- an edition outside its limits, 8 before 7 too
+    ∷ remains (lentIn 1 1 5 (5 ∷ zeros 3)) 1 .refusal is 0 ∷ remains (lentIn 2 1 5 (5 ∷ zeros 3)) 1 .refusal is 0
+    ∷ remains (lentIn 2 1 5 (5 ∷ zeros 3)) 2 .refusal is 12 ∷ remains (lentIn 2 0 5 (5 ∷ zeros 3)) 2 .refusal is 8
+    ∷ remains (lentIn 0 0 5 (5 ∷ zeros 3)) 1 .refusal is 8 ∷ remains (lentIn 3 1 5 (5 ∷ zeros 3)) 1 .refusal is 8
+    ∷ remains (lentIn 1 2 5 (5 ∷ zeros 3)) 1 .refusal is 8 ∷ remains (lentIn 2 1 5 (5 ∷ zeros 2)) 1 .refusal is 7
+    ∷ remains (lentIn 2 0 5 (5 ∷ zeros 2)) 1 .refusal is 8 ∷ remains (lentIn 1 2 5 (5 ∷ zeros 2)) 1 .refusal is 8
     ∷ []

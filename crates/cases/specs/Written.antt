@@ -1,5 +1,5 @@
 -- How sheets, events, states and lines are written down in this crate.
-use Prim.Native.Nat.{ℕ, _/_, _%_}
+use Prim.Native.Nat.{ℕ, _+_, _/_, _%_}
 use mathlib.Core.List.{List, [], _∷_, _++_, map}
 use lib.ListN.{length, take, replicate}
 use Rattle.units.specs.declared.Percent.{Percent}
@@ -10,8 +10,8 @@ abbrev pub percents : List ℕ → List Percent
 percents ns = take 16 (map (λ n. record { 0 = n }) ns ++ replicate 16 (record { 0 = 0 }))
 
 -- settings by E and whether it is stated; W, C, P, M and the shares
-abbrev pub kitIn : ℕ → ℕ → ℕ → ℕ → ℕ → ℕ → List ℕ → Settings
-kitIn edition stated w c policy core shares =
+abbrev pub kitWith : ℕ → ℕ → ℕ → ℕ → ℕ → ℕ → List ℕ → Settings
+kitWith edition stated w c policy core shares =
     record {
       window = record { 0 = w };
       tick = record { 0 = c };
@@ -23,16 +23,23 @@ kitIn edition stated w c policy core shares =
       shares = percents shares;
     }
 
--- where no E is stated: W, C, P, M and the shares; and where this one is
+-- where no E is stated: W, C, P, M and the shares; and where this edition is
 abbrev pub kit : ℕ → ℕ → ℕ → ℕ → List ℕ → Settings
-kit w c policy core shares = kitIn 1 0 w c policy core shares
+kit w c policy core shares = kitWith 1 0 w c policy core shares
 
-abbrev pub kitOf : ℕ → ℕ → ℕ → ℕ → ℕ → List ℕ → Settings
-kitOf edition w c policy core shares = kitIn edition 1 w c policy core shares
+abbrev pub kitIn : ℕ → ℕ → ℕ → ℕ → ℕ → List ℕ → Settings
+kitIn edition w c policy core shares = kitWith edition 1 w c policy core shares
 
 -- a tick of 1000 cycles, policy 0, core 0, two partitions with half the processor each
 abbrev pub halves : ℕ → Settings
 halves w = kit w 1000 0 0 (50 ∷ 50 ∷ [])
+
+-- ---- records of a sheet: the letter's byte, the two digits, the six digits
+
+abbrev pub sheetRecord : ℕ → ℕ → ℕ → List ℕ
+sheetRecord letter n v =
+    letter ∷ 32 ∷ (48 + n / 10) ∷ (48 + n % 10) ∷ 32 ∷ (48 + v / 100000) ∷ (48 + v / 10000 % 10) ∷ (48 + v / 1000 % 10) ∷ (48 + v / 100 % 10)
+    ∷ (48 + v / 10 % 10) ∷ (48 + v % 10) ∷ 10 ∷ []
 
 -- ---- events: kind, thread, partition, priority, stamp, mask, policy
 
