@@ -57,7 +57,7 @@ def refutations(edit):
         found["Refuted"] = beside.read_text()
     if edit.shown:
         file, entry = edit.shown.split()
-        test = {"Runs": "agrees", "Places": "stand", "Ties": "won", "Refusals": "agree"}[file]
+        test = {"Runs": "agrees", "Places": "stand", "Ties": "won", "Editions": "told", "Refusals": "agree"}[file]
         found["Shown"] = SHOWN.format(file=file, entry=entry, test=test)
     assert found, f"{edit.path}: neither a line `shown:` nor {beside.name}"
     return found
