@@ -3,6 +3,7 @@ pub mod Decisions
 pub mod Turns
 pub mod Places
 pub mod Switches
+pub mod Editions
 pub mod Runs
 pub mod Reading
 pub mod Uses

@@ -23,6 +23,7 @@ use Rattle.sessions.proofs.Decisions as Decisions
 use Rattle.sessions.proofs.Turns as DoorTurns
 use Rattle.sessions.proofs.Places as DoorPlaces
 use Rattle.sessions.proofs.Switches as DoorSwitches
+use Rattle.sessions.proofs.Editions as DoorEditions
 use Rattle.sessions.proofs.Runs as Runs
 use Rattle.sessions.proofs.Uses as Uses
 use Rattle.sessions.proofs.FromC as FromC
@@ -83,6 +84,7 @@ promised = record {
   door-places = DoorPlaces.door-places;
   door-among-equals = DoorPlaces.door-among-equals;
   door-switches = DoorSwitches.door-switches;
+  door-stated-or-not = DoorEditions.door-stated-or-not;
   run = Runs.run-is-calls;
   uses = Uses.uses-are-calls;
   uses-run = Uses.uses-are-run;

@@ -16,6 +16,7 @@ use Rattle.sessions.specs.Decisions as Decisions
 use Rattle.sessions.specs.Turns as DoorTurns
 use Rattle.sessions.specs.Places as DoorPlaces
 use Rattle.sessions.specs.Switches as DoorSwitches
+use Rattle.sessions.specs.Editions as DoorEditions
 use Rattle.sessions.specs.Uses as Uses
 use Rattle.sessions.specs.FromC as FromC
 
@@ -78,6 +79,7 @@ pub record Promised : Type 1 where
   pub door-places : DoorPlaces.DoorPlaces
   pub door-among-equals : DoorPlaces.DoorAmongEquals
   pub door-switches : DoorSwitches.DoorSwitches
+  pub door-stated-or-not : DoorEditions.DoorStatedOrNot
   pub run : Calls.RunIsCalls
   pub uses : Uses.UsesAreCalls
   pub uses-run : Uses.UsesAreRun
