@@ -120,7 +120,8 @@ module _ (n : ℕ) where
 
   module _ (s : State) (fits : editionFits (s .settings .edition) n ≡ editionFits (s .settings .edition) (s .settings .stated)) where
     refused-as : (h b : List ℕ) → refused (other s) h b ≡ refused s h b
-    unfolding sharesFit withinLimits slotSum soundHistory soundQueue soundRest soundRunning sound tooLong wrongThread wrongPlace wrongReadiness refusedState refusedEvent refused
+    unfolding sharesFit withinLimits slotSum soundHistory soundQueue soundRest soundRunning sound tooLong wrongThread wrongPlace wrongReadiness
+        refusedState refusedEvent refused
     refused-as h b = rw fits
 
     answer-as : (h b : List ℕ) → answer (restated n (saved s h)) b ≡ answered (answer (saved s h) b)
