@@ -230,6 +230,8 @@ fn decisions() -> Vec<Fixed> {
     let halves = |window, tick| sheet(window, tick, 0, 0, &[50, 50]);
     let mut comma = halves(4, 1000);
     comma[60..].copy_from_slice(b"S 01 0000,5\n");
+    let mut repeated = halves(4, 1000);
+    repeated[60..].copy_from_slice(b"S 00 000050\n");
     // Two threads, of which the first, in partition 0, has run for so long.
     let after = |run: u32| {
         [
@@ -297,6 +299,7 @@ fn decisions() -> Vec<Fixed> {
         ),
         fixed("no sheet", Vec::new(), &[tick(0)], "01 0 00 000\n"),
         fixed("half a percent", comma, &[tick(0)], "02 0 00 000\n"),
+        fixed("S 00 twice", repeated, &[tick(0)], "02 0 00 000\n"),
         fixed("W 1", halves(1, 1000), &[tick(0)], "03 0 00 000\n"),
         fixed("W 401", halves(401, 1000), &[tick(0)], "03 0 00 000\n"),
         fixed("C 150", halves(4, 150), &[tick(0)], "04 0 00 000\n"),
