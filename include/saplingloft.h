@@ -17,7 +17,7 @@
  * Both together can be written to a file and read back later. Beside them a file has to hold SAPLINGLOFT_VERSION and the state's size, because the
  * state itself tells neither; examples/embed.c shows it. Numbers lie in it as the processor has them, so a file is for processors of one byte order.
  *
- * Sizes: the state has 688 bytes, the history 4 * count * window, which is at most 25,600. Of code the archive for x86-64 has 24 KB, 10 KB of them for
+ * Sizes: the state has 688 bytes, the history 4 * count * window, which is at most 25,600. Of code the archive for x86-64 has 25 KB, 10 KB of them for
  * saplingloft_run alone, which a program that makes no runs does not link. A call there takes at most SAPLINGLOFT_STACK bytes of stack, as
  * tools/stack.c measures them; `make board` prints these figures for other processors.
  *
@@ -327,7 +327,8 @@ static inline const char *saplingloft_sentence(enum saplingloft_refusal refusal)
     case SAPLINGLOFT_REFUSED_WINDOW: return "W, the window, is not 2 to 400 ticks";
     case SAPLINGLOFT_REFUSED_TICK: return "C, the cycles in a tick, is not a multiple of 100 from 100 to 999,900";
     case SAPLINGLOFT_REFUSED_POLICY_CORE_OR_EDITION:
-        return "P, the policy, is not 0 or 1, M, the core, is not 0 to 7, or E, the edition, is not 1 or 2, or not 1 where it is not stated";
+        return "P, the policy, is not 0 or 1, M, the core, is not 0 to 7, E, the edition, is not 1 or 2, or 2 and not stated, or edition_stated is "
+               "not 0 or 1";
     case SAPLINGLOFT_REFUSED_SHARES: return "a share is above 100, or the shares do not add up to 100";
     case SAPLINGLOFT_REFUSED_BUFFER: return "the lent buffer is too short";
     case SAPLINGLOFT_REFUSED_STATE: return "the state is not sound";
