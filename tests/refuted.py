@@ -2,9 +2,9 @@
 """Each faulty definition and each faulty statement is shown to be wrong.
 
 That an edit is refused may only say that a proof follows the text. So for each edit of tools/must-break, and of must-fail in the crates of
-statements, the checker also proves that it is wrong: of a faulty definition, that a run, a place, a tie or a number of crate `cases` is another
-than the paper says (the line `shown:` of the edit names it), and of some that a promise is false with it; of a faulty statement, that it is false,
-by a run that is computed (LABEL.refuted, beside the edit). All that an edit reaches is copied into one crate, which must be proved whole. In a
+statements, the checker also proves that it is wrong: of a faulty definition, that a run, a place, a tie, a sheet or a number of crate `cases` is
+another than the paper says (the line `shown:` of the edit names it), and of some that a promise is false with it; of a faulty statement, that it is
+false, by a run that is computed (LABEL.refuted, beside the edit). All that an edit reaches is copied into one crate, which must be proved whole. In a
 second crate, of the same proofs on the files as they are, every proof must fail. Every promise, a field of `Promised`, must have such a fault of
 its own.
 
