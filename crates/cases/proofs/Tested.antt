@@ -1,5 +1,6 @@
 -- THE TESTS: the runs of Runs give their lines, the threads of Places stand where they must, the ties of Ties are won by whom they must, the sheets
--- of Editions say what they must and are written back, and the numbers of Refusals are the paper's, by computation.
+-- of Editions say what they must and are written back, its given states have budget where they must, and the numbers of Refusals are the paper's, by
+-- computation.
 use mathlib.Core.Path.{_≡_, refl}
 use mathlib.Core.List.{[], _∷_, map}
 use lib.ListN.{take, drop}
@@ -69,6 +70,10 @@ every-stated-edition : map Editions.readOf Editions.sheets ≡ map Editions.want
 unfolding remains
 every-stated-edition = refl
 
+every-given-edition : map (λ x. decision (Editions.lentFor x)) Editions.given ≡ map (λ x. line 0 (x .mode) 0 0) Editions.given
+unfolding remains
+every-given-edition = refl
+
 -- what is written into a buffer: `W 00 000002`; `S 01 000050`, and what was there before
 first-record : take 12 buffer ≡ 87 ∷ 32 ∷ 48 ∷ 48 ∷ 32 ∷ 48 ∷ 48 ∷ 48 ∷ 48 ∷ 48 ∷ 50 ∷ 10 ∷ []
 unfolding lines
@@ -102,7 +107,8 @@ decisions : map decision (lent 1 5 (5 ∷ zeros 3) ∷ lent 1 5 (5 ∷ zeros 2) 
 unfolding remains
 decisions = refl
 
-editions-decided : map decision (lentIn 2 1 5 (5 ∷ zeros 3) ∷ lentIn 1 1 5 (5 ∷ zeros 3) ∷ lentIn 2 0 5 (5 ∷ zeros 3) ∷ lentIn 2 0 5 (5 ∷ zeros 2) ∷ [])
-    ≡ line 0 1 0 0 ∷ line 0 1 0 0 ∷ refusal 8 ∷ refusal 8 ∷ []
+-- an edition outside its limits, 8 before 7 too
+editions-refused : map decision (lentIn 2 0 5 (5 ∷ zeros 3) ∷ lentIn 1 2 5 (5 ∷ zeros 3) ∷ lentIn 2 0 5 (5 ∷ zeros 2) ∷ lentIn 2 1 5 (5 ∷ zeros 2) ∷ [])
+    ≡ refusal 8 ∷ refusal 8 ∷ refusal 8 ∷ refusal 7 ∷ []
 unfolding remains
-editions-decided = refl
+editions-refused = refl

@@ -18,7 +18,7 @@ use Rattle.model.specs.Answers.{Remainder}
 use Rattle.model.specs.Arrays.{columns}
 use Rattle.model.specs.Lent.{Lent}
 use Rattle.model.specs.Doors.{refusedStart}
-use Rattle.cases.specs.Written.{percents, kit, kitIn, kitWith, halves, event, tick, create, createOn, createAs, ready, block, setPriority, end, resume}
+use Rattle.cases.specs.Written.{percents, kit, kitWith, halves, event, tick, create, createOn, createAs, ready, block, setPriority, end, resume}
 use Rattle.cases.specs.Computed.{sheetNumber, remains}
 
 infix 70 _is_
@@ -82,9 +82,13 @@ unsound n = saved (withUsed (freshState (halves 2)) (record { 0 = 1 } ∷ replic
 abbrev pub short : Saved
 short = saved (freshState (halves 2)) (replicate 3 0)
 
--- the number by which a fresh state of this edition, stated (1) or not (0), is refused beside a history of so many numbers; four are wanted
+-- halves 2 of this edition, stated (1) or not (0)
+abbrev pub halvesIn : ℕ → ℕ → Settings
+halvesIn edition stated = kitWith edition stated 2 1000 0 0 (50 ∷ 50 ∷ [])
+
+-- the number by which a fresh state of them is refused beside a history of so many numbers; four are wanted
 abbrev pub inEdition : ℕ → ℕ → ℕ → ℕ
-inEdition edition stated n = refusedState (freshState (kitWith edition stated 2 1000 0 0 (50 ∷ 50 ∷ []))) (replicate n 0)
+inEdition edition stated n = refusedState (freshState (halvesIn edition stated)) (replicate n 0)
 
 -- eleven of the bytes
 abbrev pub cut : List ℕ → List ℕ
@@ -221,7 +225,7 @@ whole = sheetOf (kit 4 1000 0 0 (95 ∷ 5 ∷ []))
 
 -- the number by which two halves of this edition, stated (1) or not (0), are refused in writing them into so many bytes
 abbrev pub written : ℕ → ℕ → ℕ → ℕ
-written edition stated n = refusedWrite (kitWith edition stated 2 1000 0 0 (50 ∷ 50 ∷ [])) n
+written edition stated n = refusedWrite (halvesIn edition stated) n
 
 abbrev pub sheets : List Number
 sheets =
@@ -245,7 +249,7 @@ sheets =
     ∷ refusedWrite (halves 2) 72 is 0 ∷ lengthWritten (halves 2) 71 is 0 ∷ lengthWritten (halves 2) 80 is 72
     -- "a stated 1 is written back too": a record more
     ∷ written 1 1 83 is 7 ∷ written 1 1 84 is 0 ∷ written 2 1 83 is 7 ∷ written 2 1 84 is 0 ∷ written 1 0 72 is 0
-    ∷ lengthWritten (kitIn 1 2 1000 0 0 (50 ∷ 50 ∷ [])) 84 is 84 ∷ lengthWritten (kitIn 2 2 1000 0 0 (50 ∷ 50 ∷ [])) 83 is 0
+    ∷ lengthWritten (halvesIn 1 1) 84 is 84 ∷ lengthWritten (halvesIn 2 1) 90 is 84 ∷ lengthWritten (halvesIn 2 1) 83 is 0
     -- "Where no E is stated, only 1 is within limits: 5 in writing"; "E other than 1 or 2 gives 5"; a flag that is neither 0 nor 1; 5 before 7
     ∷ written 2 0 84 is 5 ∷ written 0 0 84 is 5 ∷ written 3 0 84 is 5 ∷ written 0 1 84 is 5 ∷ written 3 1 84 is 5 ∷ written 1 2 96 is 5
     ∷ written 2 2 96 is 5 ∷ written 1 4294967295 96 is 5 ∷ written 2 0 0 is 5
