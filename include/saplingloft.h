@@ -33,7 +33,8 @@
 
 /* Of the state and of the calls. Another number means that a saved state of this one cannot be used. Version 2 has time slices: `policies` and
  * `slices` in the state and in the library's own functions, and `policy` at the end of struct saplingloft_record; 0 is what version 1 did. Version 3
- * has the editions of the budget test: `edition` and `edition_stated` in the settings, in front of `count`; 1, not stated, is what version 2 did. */
+ * has the editions of the budget test: `edition`, `edition_stated` and `reserved` in the settings, in front of `count`; 1, not stated, is what version
+ * 2 did. */
 #define SAPLINGLOFT_VERSION 3
 
 enum {
@@ -111,7 +112,8 @@ struct saplingloft_settings {
     /*  8 */ uint32_t policy;                         /* P: 0 default, 1 ratio */
     /* 12 */ uint32_t core;                           /* M */
     /* 16 */ uint32_t edition;                        /* E: 1 a quarter, 2 half of a tick must remain; 1 where it is not stated */
-    /* 20 */ uint32_t edition_stated;                 /* 1 where the sheet has an E, else 0 */
+    /* 20 */ uint8_t edition_stated;                  /* 1 where the sheet has an E, else 0; any other value is outside the limits */
+    /* 21 */ uint8_t reserved[3];                     /* 0; any other value is outside the limits */
     /* 24 */ uint32_t count;                          /* how many partitions there are */
     /* 28 */ uint32_t shares[SAPLINGLOFT_PARTITIONS]; /* S, in percent; 0 past the last partition */
 };
@@ -166,8 +168,9 @@ struct saplingloft_written {
 };
 
 /* ---- The library's own functions. Programs in C and C++ have the inline functions below, which take a state's address and pass those of its parts:
- * settings: window, tick, policy, core, edition, edition_stated, count. clock: stamp, slot, since, queued, running. remaining: one number, in two's
- * complement. Each answers the refusal, or 0; but event and decision answer refusal + 256 * mode + 65536 * partition + 16777216 * thread. */
+ * settings: window, tick, policy, core, edition, edition_stated with the reserved bytes above it, count. clock: stamp, slot, since, queued, running.
+ * remaining: one number, in two's complement. Each answers the refusal, or 0; but event and decision answer refusal + 256 * mode + 65536 * partition +
+ * 16777216 * thread. */
 
 #ifdef __cplusplus
 extern "C" {
@@ -328,7 +331,7 @@ static inline const char *saplingloft_sentence(enum saplingloft_refusal refusal)
     case SAPLINGLOFT_REFUSED_TICK: return "C, the cycles in a tick, is not a multiple of 100 from 100 to 999,900";
     case SAPLINGLOFT_REFUSED_POLICY_CORE_OR_EDITION:
         return "P, the policy, is not 0 or 1, M, the core, is not 0 to 7, E, the edition, is not 1 or 2, or 2 and not stated, or edition_stated is "
-               "not 0 or 1";
+               "not 0 or 1, or reserved is not 0";
     case SAPLINGLOFT_REFUSED_SHARES: return "a share is above 100, or the shares do not add up to 100";
     case SAPLINGLOFT_REFUSED_BUFFER: return "the lent buffer is too short";
     case SAPLINGLOFT_REFUSED_STATE: return "the state is not sound";

@@ -17,6 +17,7 @@ LIES(saplingloft_settings, policy, 8);
 LIES(saplingloft_settings, core, 12);
 LIES(saplingloft_settings, edition, 16);
 LIES(saplingloft_settings, edition_stated, 20);
+LIES(saplingloft_settings, reserved, 21);
 LIES(saplingloft_settings, count, 24);
 LIES(saplingloft_settings, shares, 28);
 SIZE(saplingloft_state, 688);
@@ -120,6 +121,8 @@ static void written(void)
         same("core", p, p % 8, state.settings.core);
         same("edition", p, edition == 0 ? 1 : edition, state.settings.edition);
         same("edition stated", p, edition != 0, state.settings.edition_stated);
+        for (int i = 0; i < 3; i++)
+            same("reserved", i, 0, state.settings.reserved[i]);
         same("count", p, 16, state.settings.count);
         same("running", p, SAPLINGLOFT_IDLE, state.running);
         for (int q = 0; q < 16; q++)
@@ -253,6 +256,23 @@ static void editions(void)
     }
 }
 
+/* The flag of edition 1 is 0 or 1, and the bytes beside it are 0. Every other byte is outside the limits: 8 in a given state, 5 in writing. */
+static void flags(void)
+{
+    const int shares[16] = { 100 };
+    uint8_t sheet[SAPLINGLOFT_SHEET];
+    start(2, 1000, 0, 0, 0, shares);
+    for (int at = 0; at < 4; at++) {
+        for (int value = 0; value < 256; value++) {
+            struct saplingloft_state given = state;
+            *(at == 0 ? &given.settings.edition_stated : &given.settings.reserved[at - 1]) = (uint8_t)value;
+            bool fits = value == 0 || (at == 0 && value == 1);
+            same("a flag in a given state", 256 * at + value, fits ? 0 : 8, verdict(&given));
+            same("a flag in writing", 256 * at + value, fits ? 0 : 5, saplingloft_write_sheet(&given.settings, sheet, sizeof sheet).refusal);
+        }
+    }
+}
+
 /* A run of three ticks, the last one cut, with room for so many bytes of lines; and an overrun. */
 static void many(void)
 {
@@ -297,6 +317,7 @@ int main(void)
     written();
     read();
     editions();
+    flags();
     many();
     sentences();
     printf("layout: the header's structs and calls are the library's, state %zu bytes\n", sizeof state);

@@ -110,11 +110,15 @@ static void damage_turn(void)
     bytes[below(THREADS)] = (uint8_t)below(SAPLINGLOFT_SLICE + 2);
 }
 
-/* The edition, or whether it is stated, becomes a small number, which it may have: 1 or 2, and 0 or 1. */
+/* The edition, or whether it is stated, becomes a small number, which it may have: 1 or 2, and 0 or 1; or a byte beside the flag, which may not. */
 static void damage_edition(void)
 {
-    uint32_t *word = below(2) == 0 ? &damaged.state.settings.edition : &damaged.state.settings.edition_stated;
-    *word = below(4);
+    struct saplingloft_settings *settings = &damaged.state.settings;
+    switch (below(3)) {
+    case 0: settings->edition = below(4); break;
+    case 1: settings->edition_stated = (uint8_t)below(4); break;
+    default: settings->reserved[below(3)] = (uint8_t)below(256);
+    }
 }
 
 /* In two of three cases one to three places, of the state or of a row: a bit, or any number; now and then a policy or a slice, or the edition. */

@@ -51,6 +51,6 @@ lines v events = map (λ e. answerLine (e .answer)) (Run.run v events)
 
 -- the remaining door's answer, and the decision door's, for what is lent
 unfoldable pub remains : Lent.Lent → ℕ → Remainder
-unfolding lines Arrays.threadsIn Arrays.plain Lent.refusedArrays Doors.refusedStart Doors.answerTo Doors.decision Doors.refusedRemaining
+unfolding lines Arrays.threadsIn Arrays.plain Lent.flagFrom Lent.refusedArrays Doors.refusedStart Doors.answerTo Doors.decision Doors.refusedRemaining
     Doors.remainder
 remains x p = Doors.remainder x p

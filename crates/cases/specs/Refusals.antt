@@ -16,7 +16,7 @@ use Rattle.model.specs.Step.{Saved, saved, withClock, withUsed, withThread, wit
 use Rattle.model.specs.Run.{freshState}
 use Rattle.model.specs.Answers.{Remainder}
 use Rattle.model.specs.Arrays.{columns}
-use Rattle.model.specs.Lent.{Lent}
+use Rattle.model.specs.Lent.{Lent, lentSettings}
 use Rattle.model.specs.Doors.{refusedStart}
 use Rattle.cases.specs.Written.{percents, kit, kitWith, halves, event, tick, create, createOn, createAs, ready, block, setPriority, end, resume}
 use Rattle.cases.specs.Computed.{sheetNumber, remains}
@@ -101,7 +101,7 @@ states =
     ∷ on (unsound 3) (tick 0) is 7 ∷ on short (cut (tick 0)) is 7 ∷ on (unsound 4) (cut (tick 0)) is 8
     -- "1 for the quarter and 2 for the half"; "Where no E is stated, only 1 is within limits: .. 8 in a given state"; and stated or not is 1 or 0
     ∷ inEdition 1 0 4 is 0 ∷ inEdition 1 1 4 is 0 ∷ inEdition 2 1 4 is 0 ∷ inEdition 2 0 4 is 8 ∷ inEdition 0 0 4 is 8 ∷ inEdition 0 1 4 is 8
-    ∷ inEdition 3 0 4 is 8 ∷ inEdition 3 1 4 is 8 ∷ inEdition 1 2 4 is 8 ∷ inEdition 2 2 4 is 8 ∷ inEdition 1 4294967295 4 is 8
+    ∷ inEdition 3 0 4 is 8 ∷ inEdition 3 1 4 is 8 ∷ inEdition 1 2 4 is 8 ∷ inEdition 2 2 4 is 8 ∷ inEdition 1 255 4 is 8
     -- 8 of the edition before 7, too
     ∷ inEdition 1 0 3 is 7 ∷ inEdition 1 1 3 is 7 ∷ inEdition 2 1 3 is 7 ∷ inEdition 2 0 3 is 8 ∷ inEdition 0 0 3 is 8 ∷ inEdition 3 1 3 is 8
     ∷ inEdition 1 2 3 is 8 ∷ inEdition 0 0 0 is 8
@@ -252,7 +252,7 @@ sheets =
     ∷ lengthWritten (halvesIn 1 1) 84 is 84 ∷ lengthWritten (halvesIn 2 1) 90 is 84 ∷ lengthWritten (halvesIn 2 1) 83 is 0
     -- "Where no E is stated, only 1 is within limits: 5 in writing"; "E other than 1 or 2 gives 5"; a flag that is neither 0 nor 1; 5 before 7
     ∷ written 2 0 84 is 5 ∷ written 0 0 84 is 5 ∷ written 3 0 84 is 5 ∷ written 0 1 84 is 5 ∷ written 3 1 84 is 5 ∷ written 1 2 96 is 5
-    ∷ written 2 2 96 is 5 ∷ written 1 4294967295 96 is 5 ∷ written 2 0 0 is 5
+    ∷ written 2 2 96 is 5 ∷ written 1 255 96 is 5 ∷ written 2 0 0 is 5
     -- 1, 3, 4 before 5; P beside E; 5 before 6
     ∷ refusedWrite (kitWith 2 0 2 1000 0 0 []) 84 is 1 ∷ refusedWrite (kitWith 2 0 1 1000 0 0 (100 ∷ [])) 84 is 3
     ∷ refusedWrite (kitWith 2 0 4 150 0 0 (100 ∷ [])) 84 is 4 ∷ refusedWrite (kitWith 2 0 4 1000 2 0 (100 ∷ [])) 84 is 5
@@ -315,4 +315,9 @@ doors =
     ∷ remains (lentIn 0 0 5 (5 ∷ zeros 3)) 1 .refusal is 8 ∷ remains (lentIn 3 1 5 (5 ∷ zeros 3)) 1 .refusal is 8
     ∷ remains (lentIn 1 2 5 (5 ∷ zeros 3)) 1 .refusal is 8 ∷ remains (lentIn 2 1 5 (5 ∷ zeros 2)) 1 .refusal is 7
     ∷ remains (lentIn 2 0 5 (5 ∷ zeros 2)) 1 .refusal is 8 ∷ remains (lentIn 1 2 5 (5 ∷ zeros 2)) 1 .refusal is 8
+    -- a word whose low byte is a flag, and that is none; and the largest
+    ∷ remains (lentIn 1 256 5 (5 ∷ zeros 3)) 1 .refusal is 8 ∷ remains (lentIn 1 257 5 (5 ∷ zeros 3)) 1 .refusal is 8
+    ∷ remains (lentIn 2 65537 5 (5 ∷ zeros 3)) 1 .refusal is 8 ∷ remains (lentIn 2 16777217 5 (5 ∷ zeros 3)) 1 .refusal is 8
+    ∷ remains (lentIn 1 255 5 (5 ∷ zeros 3)) 1 .refusal is 8 ∷ remains (lentIn 1 4294967295 5 (5 ∷ zeros 3)) 1 .refusal is 8
+    ∷ refusedWrite (lentSettings (lentIn 1 256 5 [])) 84 is 5 ∷ refusedWrite (lentSettings (lentIn 2 257 5 [])) 84 is 5
     ∷ []

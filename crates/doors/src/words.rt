@@ -2,7 +2,7 @@
 ghost use mathlib.Core.Path.{_≡_};
 ghost use lib.ListN.{length};
 ghost use Rattle.model.specs.Arrays.{columns, Sized};
-ghost use Rattle.model.specs.Lent.{sharesFrom, settingsFrom, clockFrom};
+ghost use Rattle.model.specs.Lent.{flagFrom, sharesFrom, settingsFrom, clockFrom};
 ghost use Rattle.doors.specs.Inner.{ClockStored};
 use model::Clock;
 use sheet::Settings;
@@ -34,12 +34,24 @@ fn percents(n: &[u32; 16]) -> [Percent; 16]
     ]
 }
 
-// W, C, P, M, E, whether E is stated, and the count; the shares.
+// The flag that tells whether E is stated, in a lent word: a byte, and the three others, which are reserved, are 0. A word with another one is not
+// cut: 255, which is outside the limits as it is.
+fn flag_in(word: u32) -> u8
+    ensures { λ r. ⌜ r ≡ flagFrom word ⌝ }
+{
+    if word < 256 {
+        return word as u8;
+    }
+    255
+}
+
+// W, C, P, M, E, the flag that tells whether E is stated, and the count; the shares.
 pub fn settings_in(numbers: &[u32; 7], shares: &[u32; 16]) -> Settings
     ensures { λ r. ⌜ r ≡ settingsFrom (now (numbers .entry)) (now (shares .entry)) ⌝ }
 {
     let window = Ticks(numbers[0]);
     let tick = Cycles(numbers[1]);
+    let stated = flag_in(numbers[5]);
     let list = percents(shares);
     Settings {
         window: window,
@@ -47,7 +59,7 @@ pub fn settings_in(numbers: &[u32; 7], shares: &[u32; 16]) -> Settings
         policy: numbers[2],
         core: numbers[3],
         edition: numbers[4],
-        stated: numbers[5],
+        stated: stated,
         count: numbers[6],
         shares: list,
     }
@@ -65,7 +77,7 @@ pub fn keep_settings(numbers: &mut [u32; 7], shares: &mut [u32; 16], s: Settings
         s.policy,
         s.core,
         s.edition,
-        s.stated,
+        s.stated as u32,
         s.count,
     ];
     *shares = amounts(list);

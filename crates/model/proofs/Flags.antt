@@ -1,19 +1,25 @@
 -- What the number by which arrays are refused tells of the state that they stand for.
-use mathlib.Core.Path.{_≡_, sym, _∙_}
-use Prim.Native.Nat.{ℕ, _*_}
-use mathlib.Core.Bool.{Bool, true, not, cond, _&&_}
+use mathlib.Core.Path.{_≡_, refl, sym, _∙_}
+use Prim.Native.Nat.{ℕ, _*_, _≤_, _<_}
+use native.Mathlib.Decide.{decLt}
+use native.Mathlib.Omega.{arith}
+use mathlib.Core.Bool.{Bool, true, false, not, cond, _&&_}
 use mathlib.Core.List.{List}
-use lib.Dec.{ltb}
-use lib.ListN.{length}
-use borrow.Author.Tests.{not-false}
+use lib.Dec.{eqb, ltb}
+use lib.ListN.{length, getD}
+use borrow.Author.Tests.{lt-ltb, le-ltb, ne-eqb, not-false}
 use Rattle.lists.proofs.Tests.{both, passes}
-use Rattle.sheet.specs.Settings.{W, withinLimits}
+use Rattle.lists.specs.Lists.{total}
+use Rattle.sheet.specs.Settings.{W, C, share, withinLimits, refusedSettings}
+use Rattle.sheet.specs.Sheet.{refusedWrite}
+use Rattle.sheet.proofs.LimitsLaws.{other-flag}
+use Rattle.sheet.proofs.Within.{limits-of}
 use Rattle.sheet.specs.declared.Settings.{Settings}
 use Rattle.model.specs.Arrays.{Columns, stateOf, flagsFit}
 use Rattle.model.specs.Sound as Model
 use Rattle.model.specs.Event.{refusedState}
 use Rattle.model.specs.declared.Clock.{Clock}
-use Rattle.model.specs.Lent.{refusedArrays}
+use Rattle.model.specs.Lent.{Lent, flagFrom, lentSettings, refusedArrays, refusedIn, OtherFlagsRefused}
 
 module _ (c : Settings) (u : List ℕ) (k : Clock) (ts : Columns) (q h : List ℕ) where
   -- where every flag is 0 or 1, it is the model's number
@@ -31,3 +37,47 @@ module _ (c : Settings) (u : List ℕ) (k : Clock) (ts : Columns) (q h : List �
       let (z₃, _) = passes (not fine) 8 0 tt z₂ in
       let (flags, _) = both (flagsFit ts) (Model.sound (stateOf c u k ts q) h) (not-false fine z₃) in
       (flags, sym (as-state flags) ∙ z)
+
+-- ---- the flag of the edition
+
+-- it is a byte
+pub flag-byte : (word : ℕ) → flagFrom word < 256
+unfolding flagFrom
+flag-byte word = go (decLt word 256)
+  where
+    go : Dec (word < 256) → cond (ltb word 256) word 255 < 256
+    go (yes b) = rw (lt-ltb word 256 b) b
+    go (no b) = rw (le-ltb word 256 (omega arith)) (omega arith)
+
+-- a byte is its own flag
+pub flag-back : (n : ℕ) → n < 256 → flagFrom n ≡ n
+unfolding flagFrom
+flag-back n b = rw (lt-ltb n 256 b)
+
+-- and a word that is neither 0 nor 1 has another one
+flag-above : (word : ℕ) → 1 < word → 1 < flagFrom word
+unfolding flagFrom
+flag-above word h = go (decLt word 256)
+  where
+    go : Dec (word < 256) → 1 < cond (ltb word 256) word 255
+    go (yes b) = rw (lt-ltb word 256 b) h
+    go (no b) = rw (le-ltb word 256 (omega arith)) (omega arith)
+
+pub other-flags-refused : OtherFlagsRefused
+unfolding refusedArrays refusedWrite refusedSettings
+other-flags-refused x h = (given (withinLimits c) refl, written)
+  where
+    c : Settings
+    c = lentSettings x
+
+    above : 1 < c .stated
+    above = flag-above (getD (x .settings) 5 0) h
+
+    given : (z : Bool) → withinLimits c ≡ z → refusedIn x ≡ 8
+    given true e = let z : ⊥ = omega (arith, above, limits-of c e .stated) in absurd z
+    given false e = rw e
+
+    written : (room : ℕ) → (1 ≤ refusedWrite c room) × (refusedWrite c room ≤ 5)
+    written room =
+        let (low, high) = other-flag (c .count) (W c) (C c) (c .policy) (c .core) (c .edition) (c .stated) (total (c .count) (share c)) above in
+        rw (ne-eqb (refusedSettings c) 0 (λ e. omega (arith, low, e))) (low, high)

@@ -1,5 +1,6 @@
 -- All that a caller lends the doors for a state and its history: arrays of numbers. Which state they stand for, and when it is refused.
-use Prim.Native.Nat.{ℕ, _*_}
+use mathlib.Core.Path.{_≡_}
+use Prim.Native.Nat.{ℕ, _*_, _≤_, _<_}
 use mathlib.Core.Bool.{not, cond, _&&_}
 use mathlib.Core.List.{List, map}
 use lib.Dec.{ltb}
@@ -7,6 +8,7 @@ use lib.ListN.{length, getD}
 use Rattle.lists.specs.Lists.{below}
 use Rattle.units.specs.declared.Percent.{Percent}
 use Rattle.sheet.specs.Settings.{W, withinLimits}
+use Rattle.sheet.specs.Sheet.{refusedWrite}
 use Rattle.sheet.specs.declared.Settings.{Settings}
 use Rattle.model.specs.State.{State}
 use Rattle.model.specs.Arrays.{Columns, stateOf, flagsFit}
@@ -15,7 +17,7 @@ use Rattle.model.specs.Step.{Saved, saved}
 use Rattle.model.specs.declared.Clock.{Clock}
 
 pub record Lent : Type 0 where
-  -- W, C, P, M, E, whether E is stated, and the count; the shares
+  -- W, C, P, M, E, the flag that tells whether E is stated, and the count; the shares
   pub settings : List ℕ
   pub shares : List ℕ
   pub used : List ℕ
@@ -33,6 +35,11 @@ lent a b u k ts q h = record { settings = a; shares = b; used = u; clock = k; th
 abbrev pub sharesFrom : List ℕ → List Percent
 sharesFrom l = map (λ p. record { 0 = getD l p 0 }) (below 16)
 
+-- the flag of the edition in a lent word: the low byte, where the three others, which are reserved, are 0. A word with another one is no flag, and
+-- is not cut to one: 255, which is outside the limits as it is
+unfoldable pub flagFrom : ℕ → ℕ
+flagFrom word = cond (ltb word 256) word 255
+
 abbrev pub settingsFrom : List ℕ → List ℕ → Settings
 settingsFrom a b =
     record {
@@ -41,7 +48,7 @@ settingsFrom a b =
       policy = getD a 2 0;
       core = getD a 3 0;
       edition = getD a 4 0;
-      stated = getD a 5 0;
+      stated = flagFrom (getD a 5 0);
       count = getD a 6 0;
       shares = sharesFrom b;
     }
@@ -81,3 +88,10 @@ refusedArrays c u k ts q h =
 
 abbrev pub refusedIn : Lent → ℕ
 refusedIn x = refusedArrays (lentSettings x) (x .used) (lentClock x) (x .threads) (x .queue) (x .history)
+
+-- the flag holds 0 or 1, and every other word is refused for what it is: with 8 in a given state, and in writing with the number of the first limit
+-- that is broken, before the shares' sum and the buffer's room
+abbrev pub OtherFlagsRefused : Type 0
+OtherFlagsRefused =
+    (x : Lent) → 1 < getD (x .settings) 5 0
+    → (refusedIn x ≡ 8) × ((room : ℕ) → (1 ≤ refusedWrite (lentSettings x) room) × (refusedWrite (lentSettings x) room ≤ 5))

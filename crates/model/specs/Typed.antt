@@ -19,7 +19,7 @@ pub record SettingsTyped (c : Settings) : Type 0 where
   pub policy : c .policy < 2 ^ 32
   pub core : c .core < 2 ^ 32
   pub edition : c .edition < 2 ^ 32
-  pub stated : c .stated < 2 ^ 32
+  pub stated : c .stated < 256
   pub count : c .count < 2 ^ 32
   pub shares : (p : ℕ) → share c p < 2 ^ 32
 

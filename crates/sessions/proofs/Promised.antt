@@ -2,6 +2,7 @@
 use Rattle.units.proofs.Laws as Units
 use Rattle.sheet.proofs.Within as Within
 use Rattle.sheet.proofs.RoundTrip as RoundTrip
+use Rattle.model.proofs.Flags as Flags
 use Rattle.invariants.proofs.Soundness as Soundness
 use Rattle.invariants.proofs.Once as Once
 use Rattle.invariants.proofs.Choices as Choices
@@ -41,6 +42,7 @@ promised = record {
   written-read = RoundTrip.written-is-read;
   read-then-write = RoundTrip.read-then-write;
   write-then-read = RoundTrip.write-then-read;
+  other-flags = Flags.other-flags-refused;
   starts = Soundness.starts;
   keeps = Soundness.keeps;
   run-keeps = Soundness.run-keeps;

@@ -2,6 +2,7 @@
 use Rattle.units.specs.Laws as Units
 use Rattle.sheet.specs.Settings as Settings
 use Rattle.sheet.specs.Sheet as Sheet
+use Rattle.model.specs.Lent as Lent
 use Rattle.invariants.specs.Promises as Invariants
 use Rattle.invariants.specs.Once as Once
 use Rattle.invariants.specs.Editions as Editions
@@ -33,6 +34,7 @@ pub record Promised : Type 1 where
   pub written-read : Sheet.WrittenIsRead
   pub read-then-write : Sheet.ReadThenWrite
   pub write-then-read : Sheet.WriteThenRead
+  pub other-flags : Lent.OtherFlagsRefused
   -- events, on the definitions
   pub starts : Invariants.Starts
   pub keeps : Invariants.Keeps

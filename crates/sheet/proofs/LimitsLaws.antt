@@ -2,7 +2,7 @@
 use mathlib.Core.Logic.{_≢_}
 use mathlib.Core.Path.{_≡_, refl}
 use Prim.Native.Nat.{ℕ, _≤_, _<_}
-use mathlib.Core.Bool.{Bool, true, false, not, _&&_, _||_, or-true}
+use mathlib.Core.Bool.{Bool, true, false, not, cond, _&&_, _||_, or-true}
 use lib.Dec.{eqb, leb}
 use borrow.Author.Tests.{eqb-true, eqb-false, eq-eqb, ne-eqb, leb-true, le-leb, lt-leb, not-false}
 use native.Mathlib.Omega.{arith}
@@ -51,3 +51,25 @@ is-edition edition stated a b c d = and (and (and (le-leb _ _ a) (le-leb _ _ b))
     go : (z : Bool) → eqb stated 1 ≡ z → (eqb edition 1 || z) ≡ true
     go true q = or-true (eqb edition 1)
     go false q = let one : eqb edition 1 ≡ true = eq-eqb _ _ (d (eqb-false stated 1 q)) in rw one
+
+-- a flag above 1 is refused, and before the sum of the shares is looked at, whatever the other numbers are
+within-five : (b : Bool) (k n : ℕ) → 1 ≤ k → k ≤ 5 → (1 ≤ n) × (n ≤ 5) → (1 ≤ cond b k n) × (cond b k n ≤ 5)
+within-five true k n l h m = (l, h)
+within-five false k n l h m = m
+
+pub other-flag : (count window tick policy core edition stated sum : ℕ) → 1 < stated
+    → (1 ≤ refusedNumbers count window tick policy core edition stated sum) × (refusedNumbers count window tick policy core edition stated sum ≤ 5)
+unfolding refusedNumbers
+other-flag count window tick policy core edition stated sum above =
+    within-five (not (countFits count)) 1 _ (omega arith) (omega arith)
+    (within-five (not (windowFits window)) 3 _ (omega arith) (omega arith)
+    (within-five (not (tickFits tick)) 4 _ (omega arith) (omega arith)
+    (within-five (not (policyAndCoreFit policy core)) 5 _ (omega arith) (omega arith)
+    (go (editionFits edition stated) refl))))
+  where
+    go : (z : Bool) → editionFits edition stated ≡ z → (1 ≤ cond (not z) 5 (cond (not (eqb sum 100)) 6 0)) × (cond (not z) 5 (cond (not (eqb sum 100)) 6 0) ≤ 5)
+    go true e =
+        let (_, _, one, _) = edition-is edition stated e in
+        let z : ⊥ = omega arith in
+        absurd z
+    go false e = (omega arith, omega arith)

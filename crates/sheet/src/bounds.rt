@@ -39,7 +39,7 @@ fn policy_and_core_fit(policy: u32, core: u32) -> bool
 }
 
 // "1 for the quarter and 2 for the half. Where no E is stated, only 1 is within limits": `stated` is 1 where it is stated, 0 where it is not.
-fn edition_fits(edition: u32, stated: u32) -> bool
+fn edition_fits(edition: u32, stated: u8) -> bool
     ensures { λ r. ⌜ r ≡ editionFits edition stated ⌝ }
 {
     (1 <= edition) & (edition <= 2) & (stated <= 1) & ((edition == 1) | (stated == 1))
@@ -54,7 +54,7 @@ pub fn limits_of(
     policy: u32,
     core: u32,
     edition: u32,
-    stated: u32,
+    stated: u8,
     sum: u64,
 ) -> Outcome
     ensures { λ r. ⌜ outcomeOf r ≡ refusedNumbers count (window .0) (tick .0) policy core edition stated sum ⌝ }
