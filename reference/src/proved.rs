@@ -13,6 +13,7 @@ pub struct Settings {
     pub policy: u32,
     pub core: u32,
     pub edition: u32,
+    /// With the bytes of `reserved` above it: one word, as it is lent.
     pub edition_stated: u32,
     pub count: u32,
     pub shares: [u32; 16],
