@@ -1,11 +1,11 @@
--- What the number by which arrays are refused tells of the state that they stand for.
+-- What the number by which arrays are refused tells of the state that they stand for, and of the flag of the edition.
 use mathlib.Core.Path.{_≡_, refl, sym, _∙_}
 use Prim.Native.Nat.{ℕ, _*_, _≤_, _<_}
 use native.Mathlib.Decide.{decLt}
 use native.Mathlib.Omega.{arith}
 use mathlib.Core.Bool.{Bool, true, false, not, cond, _&&_}
 use mathlib.Core.List.{List}
-use lib.Dec.{eqb, ltb}
+use lib.Dec.{ltb}
 use lib.ListN.{length, getD}
 use borrow.Author.Tests.{lt-ltb, le-ltb, ne-eqb, not-false}
 use Rattle.lists.proofs.Tests.{both, passes}
@@ -39,15 +39,6 @@ module _ (c : Settings) (u : List ℕ) (k : Clock) (ts : Columns) (q h : List �
       (flags, sym (as-state flags) ∙ z)
 
 -- ---- the flag of the edition
-
--- it is a byte
-pub flag-byte : (word : ℕ) → flagFrom word < 256
-unfolding flagFrom
-flag-byte word = go (decLt word 256)
-  where
-    go : Dec (word < 256) → cond (ltb word 256) word 255 < 256
-    go (yes b) = rw (lt-ltb word 256 b) b
-    go (no b) = rw (le-ltb word 256 (omega arith)) (omega arith)
 
 -- a byte is its own flag
 pub flag-back : (n : ℕ) → n < 256 → flagFrom n ≡ n

@@ -52,11 +52,12 @@ is-edition edition stated a b c d = and (and (and (le-leb _ _ a) (le-leb _ _ b))
     go true q = or-true (eqb edition 1)
     go false q = let one : eqb edition 1 ≡ true = eq-eqb _ _ (d (eqb-false stated 1 q)) in rw one
 
--- a flag above 1 is refused, and before the sum of the shares is looked at, whatever the other numbers are
+-- of two numbers from 1 to 5 either is
 within-five : (b : Bool) (k n : ℕ) → 1 ≤ k → k ≤ 5 → (1 ≤ n) × (n ≤ 5) → (1 ≤ cond b k n) × (cond b k n ≤ 5)
 within-five true k n l h m = (l, h)
 within-five false k n l h m = m
 
+-- a flag above 1 is refused, and before the sum of the shares is looked at, whatever the other numbers are
 pub other-flag : (count window tick policy core edition stated sum : ℕ) → 1 < stated
     → (1 ≤ refusedNumbers count window tick policy core edition stated sum) × (refusedNumbers count window tick policy core edition stated sum ≤ 5)
 unfolding refusedNumbers
