@@ -13,7 +13,7 @@ use sheet::Settings;
 use units::{Cycles, Ticks};
 
 // The clock after it, and the set of partitions that have budget.
-#[derive(Drop)]
+#[derive(Clone, Copy)]
 pub struct Account {
     pub clock: Clock,
     pub solvent: u16,

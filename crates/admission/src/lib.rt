@@ -1,4 +1,6 @@
 // Which events are refused on a sound state, and why: the first refusal that applies.
+#![tactic(auto)]
+
 ghost use Rattle.std.specs.Prelude.{◌≡◌, true, not, ◌||◌, leb, eqb, get_or};
 ghost use Rattle.refusals.specs.Refusals.{outcome_of};
 ghost use Rattle.model.specs.Event.{well_formed, stamp_of};

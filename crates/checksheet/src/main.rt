@@ -1,4 +1,6 @@
 // Checks a share sheet: reads it from standard input, and writes it back, or the line that the desk program prints for a refused one.
+#![tactic(auto)]
+
 use libc::{STDIN_FILENO, STDOUT_FILENO};
 use model::Verdict;
 use refusals::Outcome;

@@ -13,7 +13,7 @@ use model::Decision;
 use sheet::Settings;
 
 // Sets of partitions: whose budget is above 0, who competes, who has budget.
-#[derive(Drop)]
+#[derive(Clone, Copy)]
 pub struct Sets {
     pub paying: u16,
     pub competing: u16,

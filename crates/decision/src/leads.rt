@@ -8,7 +8,7 @@ ghost use Rattle.decision.specs.Keeping.{KeptIn, Stale, Left, Changed, Lined, Jo
 use threads::masks;
 
 // One more than the top priority of some threads, and the first that has it.
-#[derive(Drop)]
+#[derive(Clone, Copy)]
 pub struct Lead {
     pub top: u16,
     pub first: u8,

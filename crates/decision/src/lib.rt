@@ -1,5 +1,7 @@
 // The decision of document 01 over what a run keeps: which partition wins, and which of its threads runs on this core. The sets of partitions are
 // arguments, and the order of partitions stands in one place, `order_in`.
+#![tactic(auto)]
+
 pub mod kept;
 pub mod leads;
 pub mod narrowing;
@@ -12,7 +14,7 @@ ghost use Rattle.decision.specs.Decides.{Decides};
 use model::{Decision, Mode};
 
 // The order of partitions in a mode: which of has budget and top priority count, in this order, before the fraction used.
-#[derive(Drop)]
+#[derive(Clone, Copy)]
 pub struct Order {
     pub budget: bool,
     pub priority: bool,

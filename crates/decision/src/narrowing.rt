@@ -7,14 +7,14 @@ ghost use Rattle.decision.specs.Narrowing.{Narrowed, OneMore, on_set, on_priorit
 use units::{Comparison, Cycles, Fraction};
 
 // Partitions that are level, and their top priority.
-#[derive(Drop)]
+#[derive(Clone, Copy)]
 pub struct Peak {
     pub kept: u16,
     pub top: u16,
 }
 
 // Partitions that are level, and the fraction that they have used.
-#[derive(Drop)]
+#[derive(Clone, Copy)]
 pub struct Front {
     pub kept: u16,
     pub fraction: Fraction,

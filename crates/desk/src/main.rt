@@ -1,6 +1,8 @@
 // The desk program: reads the share sheet from shares.txt and events from standard input, and prints one line for each event. What it
 // prints is decided in the proved library; here bytes are only carried in and out. Each read is answered at once: a record that the read cut is
 // kept for the next one, and only the end of the input makes it a cut event.
+#![tactic(auto)]
+
 ghost use Rattle.std.specs.Prelude.{◌+◌, ◌≤◌, ◌<◌, length};
 ghost use Rattle.io.specs.Counts.{IsPrefixLen};
 
@@ -72,7 +74,7 @@ fn answer(
 }
 
 // What a turn of the reading loop leaves: whether there may be more to read, and how many bytes of a cut record are kept.
-#[derive(Drop)]
+#[derive(Clone, Copy)]
 struct Turn {
     more: bool,
     kept: usize,

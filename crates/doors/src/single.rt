@@ -14,7 +14,7 @@ use refusals::Outcome;
 use sheet::Settings;
 
 // What the event is answered, and the clock after it.
-#[derive(Drop)]
+#[derive(Clone, Copy)]
 struct Reply {
     verdict: Verdict,
     clock: Clock,

@@ -4,7 +4,7 @@ ghost use Rattle.model.specs.Event.{known};
 ghost use Rattle.event.specs.Kinds.{kind_number, uses_of};
 
 // What an event asks for. `kind_number` in specs/ gives each case the number of its kind.
-#[derive(Drop)]
+#[derive(Clone, Copy)]
 pub enum Action {
     Unknown,
     Tick,
@@ -17,7 +17,7 @@ pub enum Action {
 }
 
 // Which of its bytes a kind of event uses; the others must be zero.
-#[derive(Drop)]
+#[derive(Clone, Copy)]
 pub struct Uses {
     // The kind is one of the paper's table.
     pub known: bool,
@@ -30,7 +30,7 @@ pub struct Uses {
 }
 
 // What a kind asks for, and what it uses.
-#[derive(Drop)]
+#[derive(Clone, Copy)]
 pub struct Form {
     pub action: Action,
     pub uses: Uses,

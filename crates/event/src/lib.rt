@@ -1,4 +1,6 @@
 // An event, decoded once: what the twelve bytes of its record say, as numbers and the action of its kind.
+#![tactic(auto)]
+
 pub mod kinds;
 
 ghost use Rattle.std.specs.Prelude.{◌≡◌, length};
@@ -8,7 +10,7 @@ ghost use Rattle.event.specs.Bytes.{formed_by, DecodedFrom};
 use kinds::{Action, Uses};
 use refusals::{Outcome, Refusal};
 
-#[derive(Drop)]
+#[derive(Clone, Copy)]
 pub struct Event {
     pub action: Action,
     pub stamp: u32,
@@ -20,7 +22,7 @@ pub struct Event {
 }
 
 // What decoding answers: the event, of which nothing is lost; or 14 or 9 beside zeros.
-#[derive(Drop)]
+#[derive(Clone, Copy)]
 pub struct Decoded {
     pub outcome: Outcome,
     pub event: Event,

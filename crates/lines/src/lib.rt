@@ -1,4 +1,6 @@
 // The desk program's lines: twelve bytes for each answer.
+#![tactic(auto)]
+
 pub mod numbers;
 
 ghost use Rattle.std.specs.Prelude.{◌≡◌, length};

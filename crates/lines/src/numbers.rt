@@ -8,7 +8,7 @@ use model::Verdict;
 use refusals::Outcome;
 
 // The four numbers of a line of the desk program.
-#[derive(Drop)]
+#[derive(Clone, Copy)]
 pub struct Numbers {
     pub refusal: u8,
     pub mode: u8,

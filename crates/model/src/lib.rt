@@ -1,10 +1,12 @@
 // What the doors answer, and the single numbers of a state. What all of it means is said in specs/, and so is the state itself, of which
 // the program holds arrays of numbers (specs/Arrays).
+#![tactic(auto)]
+
 use refusals::Refusal;
 use units::{Cycles, Ticks};
 
 // The single numbers of a state that events change.
-#[derive(Drop)]
+#[derive(Clone, Copy)]
 pub struct Clock {
     // The stamp of the last accepted event.
     pub stamp: u32,
@@ -19,7 +21,7 @@ pub struct Clock {
 }
 
 // The paper's modes; specs/Answers has their numbers.
-#[derive(Drop)]
+#[derive(Clone, Copy)]
 pub enum Mode {
     Idle,
     FreeTime,
@@ -28,7 +30,7 @@ pub enum Mode {
 }
 
 // What was decided: the mode, the partition that won and the thread that runs; partition 0 and thread 255 while idle.
-#[derive(Drop)]
+#[derive(Clone, Copy)]
 pub struct Decision {
     pub mode: Mode,
     pub partition: u8,
@@ -36,14 +38,14 @@ pub struct Decision {
 }
 
 // The answer of a door that decides.
-#[derive(Drop)]
+#[derive(Clone, Copy)]
 pub enum Verdict {
     Decided(Decision),
     Refused(Refusal),
 }
 
 // The answer of the remaining door.
-#[derive(Drop)]
+#[derive(Clone, Copy)]
 pub enum Balance {
     Remaining(i64),
     Refused(Refusal),

@@ -2,6 +2,8 @@
 // lies. Every parameter is a pointer to an array of numbers, a pointer and a length, or a number of 32 bits; the answer is a number of
 // 32 bits: so C passes them alike on every processor. Each contract is that of the function behind it.
 // `run` has a crate of its own (saplingloft_run), so that the step is compiled into its loop; one archive holds both.
+#![tactic(auto)]
+
 ghost use Rattle.std.specs.Prelude.{◌≡◌};
 ghost use Rattle.model.specs.Arrays.{columns};
 ghost use Rattle.units.specs.Units.{Narrow};

@@ -1,4 +1,6 @@
 // The C interface, a run of events: the door, lent the caller's struct where it lies (see the crate saplingloft).
+#![tactic(auto)]
+
 ghost use Rattle.model.specs.Lent.{lent};
 ghost use Rattle.model.specs.Arrays.{columns};
 ghost use Rattle.doors.specs.Doors.{Ran};

@@ -19,7 +19,7 @@ use sheet::Settings;
 use threads::{actions, turns};
 
 // The clock and the sets after it.
-#[derive(Drop)]
+#[derive(Clone, Copy)]
 pub struct Done {
     pub clock: Clock,
     pub sets: Sets,

@@ -1,4 +1,6 @@
 // An event on a state that is not refused, in the arrays that its caller lends: refused, or done and decided.
+#![tactic(auto)]
+
 pub mod apply;
 pub mod batch;
 
@@ -17,7 +19,7 @@ use refusals::{Outcome, Refusal};
 use sheet::Settings;
 
 // What an event is answered; the clock, the sets and the favoured partition after it.
-#[derive(Drop)]
+#[derive(Clone, Copy)]
 pub struct Stepped {
     pub verdict: Verdict,
     pub clock: Clock,

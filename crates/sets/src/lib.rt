@@ -1,4 +1,6 @@
 // Sets of the numbers below 16, as a number's binary digits.
+#![tactic(auto)]
+
 ghost use Rattle.std.specs.Prelude.{◌≢◌, ◌<◌};
 ghost use Rattle.sets.specs.Bits.{Put, Only, Marked, Lowest, Rested};
 

@@ -7,7 +7,7 @@ use crate::records::{Field, read_record, write_record};
 use refusals::{Outcome, Refusal};
 
 // The values of a sheet's records, 0 where there is none; zeros beside a refusal.
-#[derive(Drop)]
+#[derive(Clone, Copy)]
 pub struct Values {
     pub outcome: Outcome,
     pub values: [u32; 21],

@@ -3,7 +3,7 @@ ghost use Rattle.std.specs.Prelude.{◌≡◌, ◌<◌, length};
 ghost use Rattle.sheet.specs.Records.{said_by, number_from, framed, field_of, digits_of, record_of};
 
 // What one record of a sheet says: a value, or a refusal. `said_by` in specs/ gives each case the paper's number and value.
-#[derive(Drop)]
+#[derive(Clone, Copy)]
 pub enum Field {
     Value(u32),
     Refused,

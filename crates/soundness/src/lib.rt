@@ -1,4 +1,6 @@
 // Whether a state is sound beside a history ("Sound means" of document 01), for whatever bytes its arrays and numbers hold.
+#![tactic(auto)]
+
 pub mod queue;
 pub mod records;
 pub mod sums;

@@ -11,7 +11,7 @@ use units::{Cycles, Ticks};
 
 // What a pass over a part of a row finds: its sum, and whether every number is below 2^22, which is above every limit of a slot. If one is
 // not, sums may have wrapped, but then the state is refused.
-#[derive(Drop)]
+#[derive(Clone, Copy)]
 struct Row {
     sum: Cycles,
     narrow: bool,

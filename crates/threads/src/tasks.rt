@@ -4,7 +4,7 @@ ghost use Rattle.model.specs.Slices.{slice_for, spent, slice_after};
 ghost use Rattle.threads.specs.Tasks.{counted_of};
 
 // A thread's task block.
-#[derive(Drop)]
+#[derive(Clone, Copy)]
 pub struct Task {
     // 0 first in, first out; 1 round robin.
     pub policy: u8,

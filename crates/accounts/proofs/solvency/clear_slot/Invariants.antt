@@ -1,0 +1,21 @@
+use mathlib.Core.Path.{◌≡◌, refl, ap, ◌∙◌}
+use Prim.Native.Nat.{ℕ, ◌+◌, ◌-◌, ◌*◌, ◌≤◌, ◌<◌}
+use native.Mathlib.Omega.{arith}
+use borrow.Author.Rules.{rules}
+use borrow.Rule.Slice.PartMut.{put_mid}
+use lib.ListN.{length, get_or, take, drop, length-set, length-take, length-drop}
+use Rattle.lists.proofs.Parts.{row_end}
+use Rattle.model.specs.Step.{clear_history}
+use Rattle.model.proofs.Bounds.{clear_length}
+use Rattle.accounts.specs.Lowered.{lowered}
+use Rattle.accounts.specs.Solvency.{Reweighed}
+use Rattle.accounts.proofs.SolvencyLaws.{reweighed_twice, clear_covers, clear_total, clear_place}
+use Rattle.accounts.proofs.solvency.clear_slot.Given as goal
+
+abbrev pub invariant-loop-p : goal.invariant-loop-p
+invariant-loop-p l =
+    (l.p ≤ l.count) × (l.used ≡ lowered l.w l.slot.0 l.p l.initial.used l.initial.history) × (l.history ≡ clear_history l.w l.slot.0 l.p l.initial.history) × (length l.history ≡ length l.initial.history) × (length l.used ≡ 16)
+    × Reweighed l.initial.used l.used l.budgets l.need.0 l.solvent l.set
+
+abbrev pub decreases-loop-p : goal.decreases-loop-p
+decreases-loop-p l = l.count - l.p

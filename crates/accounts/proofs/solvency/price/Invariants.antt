@@ -1,0 +1,20 @@
+use mathlib.Core.Path.{◌≡◌, ap, ◌∙◌}
+use mathlib.Core.Bool.{◌&&◌, not}
+use Prim.Native.Nat.{ℕ, ◌-◌, ◌≤◌, ◌<◌}
+use native.Mathlib.Omega.{arith}
+use borrow.Author.Rules.{rules}
+use lib.ListN.{length, get_or, length-set}
+use lib.Dec.{eqb, ltb}
+use Rattle.sets.specs.Bits.{in_set}
+use Rattle.sheet.specs.Settings.{budget}
+use Rattle.sheet.proofs.Within.{share_most}
+use Rattle.accounts.proofs.SolvencyLaws.{amounts_more, paying_more, paying_none, length_same}
+use Rattle.accounts.proofs.solvency.price.Given as goal
+
+abbrev pub invariant-loop-p : goal.invariant-loop-p
+invariant-loop-p l =
+    (l.p ≤ l.count) × (length l.budgets ≡ 16) × ((q : ℕ) → q < l.p → get_or l.budgets q 0 ≡ budget l.settings q)
+    × ((q : ℕ) → q < 16 → in_set l.paying q ≡ (ltb q l.p && not (eqb (budget l.settings q) 0)))
+
+abbrev pub decreases-loop-p : goal.decreases-loop-p
+decreases-loop-p l = l.count - l.p

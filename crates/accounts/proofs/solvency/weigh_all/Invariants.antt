@@ -1,0 +1,14 @@
+use mathlib.Core.Path.{◌≡◌, subst}
+use Prim.Native.Nat.{ℕ, ◌-◌, ◌≤◌}
+use native.Mathlib.Omega.{arith}
+use borrow.Author.Rules.{rules}
+use Rattle.accounts.specs.Solvency.{WeighedIn}
+use Rattle.accounts.proofs.SolvencyLaws.{weighed_more}
+use Rattle.accounts.proofs.solvency.weigh_all.Given as goal
+
+abbrev pub invariant-loop-p : goal.invariant-loop-p
+invariant-loop-p l =
+    (l.p ≤ l.count) × WeighedIn l.used l.budgets l.need.0 l.p l.set
+
+abbrev pub decreases-loop-p : goal.decreases-loop-p
+decreases-loop-p l = l.count - l.p

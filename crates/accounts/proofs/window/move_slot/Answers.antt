@@ -1,0 +1,25 @@
+use mathlib.Core.Path.{sym, subst}
+use Prim.Native.Nat.{ℕ}
+use Rattle.sheet.specs.Settings.{W, need}
+use Rattle.accounts.specs.Lowered.{Covered}
+use Rattle.accounts.specs.Solvency.{Reweighed}
+use Rattle.accounts.proofs.WindowLaws.{moved}
+use borrow.Author.Rules.{rules}
+use Rattle.accounts.proofs.window.move_slot.Goals as goal
+
+pub clear_slot-set-requires : goal.clear_slot-set-requires
+clear_slot-set-requires c =
+    let start = c in
+    let a = start.args in
+    (start.requires.0, subst (λ (x : ℕ). Covered a.used.now a.history-1.now (W a.settings) a.settings.count x) (sym c.next_slot-next.ensures) start.requires.2)
+
+pub returns : goal.returns
+unfolding need
+returns c =
+    let a = c.args in
+    let d = c.clear_slot-set in
+    let n = c.next_slot-next in (
+      moved a.settings a.used.now a.c a.history-1.now n.result _ _ n.ensures d.ensures.0 d.ensures.1,
+      subst (λ (x : ℕ). Reweighed a.used.now d.new.0 a.budgets.now x a.solvent d.result)
+          c.need-need.ensures d.ensures.2,
+    )

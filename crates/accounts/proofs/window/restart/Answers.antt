@@ -1,0 +1,16 @@
+use mathlib.Core.Path.{subst}
+use Prim.Native.Nat.{ℕ}
+use lib.ListN.{replicate}
+use Rattle.sheet.specs.Settings.{need}
+use Rattle.accounts.specs.Solvency.{WeighedIn}
+use Rattle.accounts.proofs.WindowLaws.{restarted}
+use borrow.Author.Rules.{rules}
+use Rattle.accounts.proofs.window.restart.Goals as goal
+
+pub returns : goal.returns
+unfolding need
+returns c =
+    let a = c.args in (
+      restarted a.settings a.used-1.now a.c a.history-1.now _ a.stamp c.clear_rows.ensures,
+      subst (λ (x : ℕ). WeighedIn (replicate 16 0) a.budgets.now x a.settings.count c.weigh_all-set.result) c.need-need.ensures c.weigh_all-set.ensures,
+    )

@@ -1,0 +1,47 @@
+use mathlib.Core.Path.{◌≡◌, subst}
+use mathlib.Core.List.{List, [], ◌∷◌, ◌++◌}
+use Prim.Native.Nat.{ℕ, ◌+◌, ◌-◌, ◌≤◌, ◌<◌}
+use native.Mathlib.Omega.{arith}
+use native.Mathlib.Numerals.{add-one}
+use borrow.Author.Rules.{rules}
+use lib.ListN.{length, get_or, take}
+use lib.Seq.{take-suc}
+use Rattle.decision.specs.Keeping.{KeptIn}
+use Rattle.decision.proofs.LeadsLaws.{kept_none}
+use Rattle.decision.proofs.leads.build.Goals as goal
+
+pub loop-i-init : goal.loop-i-init
+loop-i-init c =
+    let a = c.args in
+    (omega arith, kept_none a.core a.partitions.now a.priorities.now a.masks.now)
+
+pub bounds-queue-i : goal.bounds-queue-i
+bounds-queue-i c = omega (arith, c.requires.few)
+
+pub join-set-requires : goal.join-set-requires
+join-set-requires c =
+    let d = c in
+    let start = d in
+    (start.requires.entries d.loop-i.i d.loop-i-test.true, start.requires.core_inside, start.requires.partitions_inside d.loop-i.i d.loop-i-test.true)
+
+pub loop-i-preserved : goal.loop-i-preserved
+loop-i-preserved c =
+    let d = c in
+    let start = d in
+    let a = start.args in
+    let turn = d.loop-i in
+    let q = a.queue.now in
+    let h : turn.i < length q = omega (arith, d.loop-i-test.true, start.requires.few, start.requires.full) in
+    let e : take turn.i q ++ (get_or q turn.i 0 ∷ []) ≡ take (turn.i + 1) q = rw (add-one, take-suc q turn.i 0 h) in (
+      omega arith,
+      subst (λ (l : List ℕ). KeptIn a.core a.partitions.now a.priorities.now a.masks.now l c.join-set.new.0 c.join-set.new.1.0 c.join-set.result) e
+          (c.join-set.ensures (take turn.i q) turn.invariant.1),
+    )
+
+pub returns : goal.returns
+returns c =
+    let start = c in
+    let a = start.args in
+    let turn = c.loop-i in
+    let e : turn.i ≡ a.queued = omega arith in
+    subst (λ (k : ℕ). KeptIn a.core a.partitions.now a.priorities.now a.masks.now (take k a.queue.now) turn.tops-1 turn.firsts-1 turn.set) e turn.invariant.1

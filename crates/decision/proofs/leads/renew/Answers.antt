@@ -1,0 +1,140 @@
+use mathlib.Core.Logic.{⊎_elim}
+use mathlib.Core.Path.{◌≡◌, sym, ◌∙◌}
+use Prim.Native.Nat.{◌+◌, ◌-◌, ◌≤◌, ◌<◌}
+use native.Mathlib.Omega.{arith}
+use borrow.Author.Rules.{rules}
+use borrow.Author.Tests.{not-true, not-false}
+use lib.ListN.{length, get_or, take}
+use Rattle.decision.specs.Leads.{lead_in, numbers, runnable}
+use Rattle.decision.specs.Keeping.{Stale}
+use Rattle.decision.proofs.LeadsLaws.{stale_none, stale_step, walk_none, walk_past, walk_here, walk_stop, walk_end}
+use Rattle.decision.proofs.leads.renew.Goals as goal
+
+pub loop-left-init : goal.loop-left-init
+loop-left-init c = c.requires.1
+
+pub overflow_cast-here : goal.overflow_cast-here
+overflow_cast-here c = omega (arith, c.lowest-p.ensures.inside)
+
+pub offset_bounds-tops-here : goal.offset_bounds-tops-here
+offset_bounds-tops-here c = omega (arith, c.lowest-p.ensures.inside)
+
+pub bounds-tops-here : goal.bounds-tops-here
+bounds-tops-here c = c.lowest-p.ensures.inside
+
+pub loop-i-init : goal.loop-i-init
+loop-i-init c =
+    let a = c.args in
+    (omega arith, walk_none a.core a.partitions.now a.priorities.now a.masks.now a.queue.now c.lowest-p.result)
+
+pub bounds-queue-i : goal.bounds-queue-i
+bounds-queue-i c = omega (arith, c.if-n-i.false, c.requires.0.few)
+
+pub overflow_cast-at : goal.overflow_cast-at
+overflow_cast-at c =
+    let d = c in
+    omega (arith, d.requires.0.entries d.loop-i.i d.if-n-i.false)
+
+pub overflow_add-i : goal.overflow_add-i
+overflow_add-i c = omega (arith, c.if-n-i.false, c.requires.0.few)
+
+pub bounds-partitions-at : goal.bounds-partitions-at
+bounds-partitions-at c =
+    let d = c in
+    d.requires.0.entries d.loop-i.i d.if-n-i.false
+
+pub bounds-masks-at : goal.bounds-masks-at
+bounds-masks-at c =
+    let d = c in
+    d.requires.0.entries d.loop-i.i d.if-n-i.false
+
+pub may_run-requires : goal.may_run-requires
+may_run-requires c = c.requires.0.core_inside
+
+pub loop-i-smaller-then-not-may_run : goal.loop-i-smaller-then-not-may_run
+loop-i-smaller-then-not-may_run c = let d = c in omega (arith, d.if-n-i.false)
+
+pub loop-i-preserved-then-not-may_run : goal.loop-i-preserved-then-not-may_run
+loop-i-preserved-then-not-may_run c =
+    let d = c in
+    let start = d in
+    let a = start.args in
+    let turn = d.loop-i in
+    let may = c.may_run in
+    let h : turn.i < length a.queue.now = omega (arith, d.if-n-i.false, start.requires.0.few, start.requires.0.full) in (
+      omega (arith, d.if-n-i.false),
+      walk_past a.core a.partitions.now a.priorities.now a.masks.now a.queue.now d.lowest-p.result
+          turn.i turn.best h (sym may.ensures ∙ not-true may.result c.if-not-may_run.true) turn.invariant.1,
+    )
+
+pub bounds-priorities-at : goal.bounds-priorities-at
+bounds-priorities-at c =
+    let d = c in
+    d.requires.0.entries d.loop-i.i d.if-n-i.false
+
+pub loop-i-smaller : goal.loop-i-smaller
+loop-i-smaller c = let d = c in omega (arith, d.if-n-i.false)
+
+pub loop-i-preserved : goal.loop-i-preserved
+loop-i-preserved c =
+    let d = c in
+    let start = d in
+    let a = start.args in
+    let turn = d.loop-i in
+    let may = c.may_run in
+    let h : turn.i < length a.queue.now = omega (arith, d.if-n-i.false, start.requires.0.few, start.requires.0.full) in (
+      omega (arith, d.if-n-i.false),
+      walk_here a.core a.partitions.now a.priorities.now a.masks.now a.queue.now d.lowest-p.result
+          turn.i turn.best c.raise-best.result h (sym may.ensures ∙ not-false may.result c.if-not-may_run.false) turn.invariant.1
+          c.raise-best.ensures,
+    )
+
+pub offset_bounds-tops-here-in-loop-left : goal.offset_bounds-tops-here-in-loop-left
+offset_bounds-tops-here-in-loop-left c = omega (arith, c.lowest-p.ensures.inside)
+
+pub bounds-tops-here-in-loop-left : goal.bounds-tops-here-in-loop-left
+bounds-tops-here-in-loop-left c = c.lowest-p.ensures.inside
+
+pub bounds-firsts-here : goal.bounds-firsts-here
+bounds-firsts-here c = c.lowest-p.ensures.inside
+
+pub mark-set-requires : goal.mark-set-requires
+mark-set-requires c = c.lowest-p.ensures.inside
+
+pub rest-left-requires : goal.rest-left-requires
+rest-left-requires c = c.loop-left-test.true
+
+pub loop-left-smaller : goal.loop-left-smaller
+loop-left-smaller c = c.rest-left.ensures.0
+
+pub loop-left-preserved : goal.loop-left-preserved
+loop-left-preserved c =
+    let join = c in
+    let d = join in
+    let start = d in
+    let a = start.args in
+    let turn = d.loop-i in
+    let outer = d.loop-left in
+    let low = d.lowest-p in
+    let ps = a.partitions.now in
+    let ns = a.priorities.now in
+    let ms = a.masks.now in
+    let q = a.queue.now in
+    let lead : join.if-n-i.lead ≡ lead_in (numbers ns) (runnable a.core ps ms low.result (take a.queued q)) =
+    ⊎_elim
+    (λ w. w.2 ∙ walk_end a.core ps ns ms q low.result turn.i a.queued turn.best turn.invariant.0 w.0.taken turn.invariant.1)
+    (λ w.
+    let h : turn.i < length q = omega (arith, w.0.left, start.requires.0.few, start.requires.0.full) in
+    let here = walk_here a.core ps ns ms q low.result turn.i turn.best w.7.result h (sym w.4.ensures ∙ not-false w.4.result w.5.left) turn.invariant.1 w.7.ensures in
+    w.11 ∙ walk_stop a.core ps ns ms q low.result (turn.i + 1) a.queued (get_or outer.tops low.result 0) w.7.result (omega (arith, w.0.left)) here w.9.taken
+    (outer.invariant.below low.result low.ensures.inside low.ensures.here))
+    join.if-n-i.branch in
+    stale_step a.core ps ns ms (take a.queued q) outer.tops outer.firsts outer.set outer.left low.result c.rest-left.result c.mark-set.result
+    join.if-n-i.lead low.ensures (c.rest-left.ensures.1 low.result low.ensures) lead c.mark-set.ensures outer.invariant
+
+pub returns : goal.returns
+returns c =
+    let a = c.args in
+    let turn = c.loop-left in
+    stale_none a.core a.partitions.now a.priorities.now a.masks.now (take a.queued a.queue.now) turn.tops turn.firsts turn.set turn.left
+    c.loop-left-test.false turn.invariant

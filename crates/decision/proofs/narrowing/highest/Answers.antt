@@ -1,0 +1,67 @@
+use mathlib.Core.Path.{◌≡◌, refl}
+use Prim.Native.Nat.{ℕ}
+use native.Mathlib.Omega.{arith}
+use borrow.Author.Rules.{rules}
+use lib.ListN.{get_or}
+use Rattle.units.specs.Units.{compare_numbers}
+use Rattle.decision.specs.Narrowing.{on_priority}
+use Rattle.decision.proofs.NarrowingLaws.{tops_ordered, Passed, passed_start, passed_value, passed_all}
+use Rattle.decision.proofs.narrowing.highest.Goals as goal
+
+pub overflow_cast-at : goal.overflow_cast-at
+overflow_cast-at c = omega (arith, c.lowest-p.ensures.inside)
+
+pub only-kept-requires : goal.only-kept-requires
+only-kept-requires c = c.lowest-p.ensures.inside
+
+pub offset_bounds-tops-at : goal.offset_bounds-tops-at
+offset_bounds-tops-at c = omega (arith, c.lowest-p.ensures.inside)
+
+pub bounds-tops-at : goal.bounds-tops-at
+bounds-tops-at c = c.lowest-p.ensures.inside
+
+pub loop-left-init : goal.loop-left-init
+loop-left-init c =
+    let start = c in
+    let tops = start.args.tops.now in
+    let first = c.lowest-p in (
+      first.result,
+      refl,
+      passed_start (on_priority tops) (tops_ordered tops) start.args.among first.result c.rest-left.result c.only-kept.result
+          first.ensures (c.rest-left.ensures.1 first.result first.ensures) c.only-kept.ensures,
+    )
+
+pub overflow_cast-here : goal.overflow_cast-here
+overflow_cast-here c = omega (arith, c.lowest-q.ensures.inside)
+
+pub offset_bounds-tops-here : goal.offset_bounds-tops-here
+offset_bounds-tops-here c = omega (arith, c.lowest-q.ensures.inside)
+
+pub bounds-tops-here : goal.bounds-tops-here
+bounds-tops-here c = c.lowest-q.ensures.inside
+
+pub raise-peak-requires : goal.raise-peak-requires
+raise-peak-requires c = c.lowest-q.ensures.inside
+
+pub loop-left-smaller : goal.loop-left-smaller
+loop-left-smaller c = c.rest-left-in-loop-left.ensures.0
+
+pub loop-left-preserved : goal.loop-left-preserved
+loop-left-preserved c =
+    let turn = c.loop-left in
+    let start = c in
+    let tops = start.args.tops.now in
+    let next = c.lowest-q in
+    let left = c.rest-left-in-loop-left in
+    let (b, e, h) = turn.invariant in
+    passed_value (on_priority tops) (tops_ordered tops) ℕ compare_numbers (λ p. get_or tops p 0) (λ p q. refl) start.args.among turn.left turn.peak.kept b
+    next.result left.result turn.peak.top-1 (get_or tops next.result 0) c.raise-peak.result.top-1 c.raise-peak.result.kept h next.ensures
+    (left.ensures.1 next.result next.ensures) e refl c.raise-peak.ensures
+
+pub returns : goal.returns
+returns c =
+    let turn = c.loop-left in
+    let start = c in
+    let tops = start.args.tops.now in
+    let (b, e, h) = turn.invariant in
+    passed_all (on_priority tops) (tops_ordered tops) start.args.among turn.left turn.peak.kept b c.loop-left-test.false h

@@ -1,0 +1,54 @@
+use mathlib.Core.Path.{sym, ap, ◌∙◌}
+use Rattle.refusals.specs.Refusals.{outcome_of}
+use Rattle.model.specs.Lent.{Lent, lent}
+use Rattle.model.specs.Answers.{Line}
+use Rattle.model.specs.Arrays.{columns}
+use Rattle.doors.specs.Doors.{Sizes}
+use Rattle.doors.specs.Inner.{Room}
+use Rattle.doors.proofs.Lending.{room, answered_no, answered_yes}
+use borrow.Author.Rules.{rules}
+use Rattle.doors.proofs.single.event.Goals as goal
+
+-- what was lent, up to the test of the state; and what was read from it
+abbrev start : goal.After-refused_state-outcome → goal.Start
+start c = c
+
+abbrev given : goal.After-refused_state-outcome → Lent
+given c =
+    let a = (start c).args in
+    lent a.settings.now a.shares.now a.used.now a.clock.now (columns a.exists.now a.ready.now a.partitions.now a.priorities.now a.masks.now a.policies.now a.slices.now) a.queue.now a.history-1.now
+
+abbrev read : goal.After-refused_state-outcome → goal.After-settings_in-s
+read c = c
+
+abbrev timed : goal.After-refused_state-outcome → goal.After-clock_in-c
+timed c = c
+
+lengths : (c : goal.After-refused_state-outcome) → Sizes (given c)
+lengths c = let z = c.sized.ensures in record { used = z.0; queue = z.1 }
+
+ready-room : (c : goal.After-refused_state-outcome)
+    → Room (read c).settings_in-s.result (given c).used (given c).threads (given c).queue
+ready-room c =
+    let z = c.sized.ensures in
+    let x = given c in
+    room (read c).settings_in-s.result x.settings x.shares x.used x.threads x.queue (read c).settings_in-s.ensures z.0 z.1 z.2
+
+pub enter-reply-requires : goal.enter-reply-requires
+enter-reply-requires c =
+    let t = c in
+    (ready-room t, sym t.refused_state-outcome.ensures ∙ ap outcome_of c.enum_told-1.given.1)
+
+pub returns-in-Refused : goal.returns-in-Refused
+returns-in-Refused c =
+    let t = c in
+    let o = c.outcome-1.given in
+    answered_no (given t) (read t).settings_in-s.result (timed t).clock_in-c.result (read t).settings_in-s.ensures (timed t).clock_in-c.ensures (lengths t) (start t).args.event.now t.refused_state-outcome.result o.0.0 o.1 t.refused_state-outcome.ensures
+
+pub returns-in-Accepted : goal.returns-in-Accepted
+returns-in-Accepted c =
+    let t = c in
+    let f = c.enter-reply in
+    let n = c.verdict_numbers in
+    answered_yes (given t) (read t).settings_in-s.result (timed t).clock_in-c.result (read t).settings_in-s.ensures (timed t).clock_in-c.ensures f.new.1.0 f.result.clock _ _ _ c.keep.new.0 (lengths t) (start t).args.event.now t.refused_state-outcome.result f.result.verdict n.result.refusal
+    c.enum_told-1.given.1 t.refused_state-outcome.ensures (ap (λ (l : Line). l.refusal) n.ensures) f.ensures c.keep.ensures

@@ -1,0 +1,8 @@
+use Rattle.lists.specs.Lists.{below}
+use Rattle.doors.proofs.Starting.{shares_back}
+use borrow.Author.Rules.{rules}
+use Rattle.doors.proofs.words.amounts.Goals as goal
+
+pub returns : goal.returns
+unfolding below
+returns c = shares_back c.args.t1 c.requires

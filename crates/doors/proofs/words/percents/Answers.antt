@@ -1,0 +1,8 @@
+use mathlib.Core.Path.{refl}
+use Rattle.lists.specs.Lists.{below}
+use borrow.Author.Rules.{rules}
+use Rattle.doors.proofs.words.percents.Goals as goal
+
+pub returns : goal.returns
+unfolding below
+returns c = refl

@@ -1,0 +1,15 @@
+use mathlib.Core.Path.{◌≡◌, refl, sym, ◌∙◌}
+use Prim.Native.Nat.{◌≤◌, ◌<◌, ◌-◌, ◌^◌}
+use native.Mathlib.Omega.{arith}
+use borrow.Author.Rules.{rules}
+use lib.Dec.{lit<}
+use lib.ListN.{length, drop, get_or}
+use Rattle.sheet.specs.Records.{number_from}
+use Rattle.sheet.proofs.Digits.{digit_yes, digit_low, digit_high, number_more, number_bad, number_end, ten_more, ten_below}
+use Rattle.sheet.proofs.records.read_digits.Given as goal
+
+abbrev pub invariant-loop-i : goal.invariant-loop-i
+invariant-loop-i l = (l.i ≤ length l.digits) × (l.value < 10 ^ l.i) × (number_from 0 l.digits ≡ number_from l.value (drop l.i l.digits))
+
+abbrev pub decreases-loop-i : goal.decreases-loop-i
+decreases-loop-i l = length l.digits - l.i

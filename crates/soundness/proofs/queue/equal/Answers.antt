@@ -1,0 +1,22 @@
+use Rattle.std.proofs.Common.{◌≡◌, ℕ, ◌-◌, ◌≤◌, Bool, eqb, List, get_or, refl, ap, ◌∙◌, arith, rules}
+use Rattle.lists.specs.Lists.{all, below}
+use Rattle.lists.proofs.Loops.{all_next}
+use Rattle.lists.proofs.Union.{or_none}
+use Rattle.soundness.proofs.queue.equal.Goals as goal
+use Rattle.soundness.proofs.queue.equal.Invariants.{agrees}
+
+pub loop-t-init : goal.loop-t-init
+unfolding all below
+loop-t-init c = (omega arith, refl)
+
+pub loop-t-preserved : goal.loop-t-preserved
+loop-t-preserved c =
+    let start = c in
+    let turn = c.loop-t in
+    (omega arith, rw (← or_none turn.bits c.difference-bits.result, c.difference-bits.ensures, turn.invariant.1) (all_next (agrees start.args.a.now start.args.b.now) turn.t))
+
+pub returns : goal.returns
+returns c =
+    let start = c in
+    let e : c.loop-t.t ≡ 64 = omega arith in
+    c.loop-t.invariant.1 ∙ ap (λ (n : ℕ). all (agrees start.args.a.now start.args.b.now) (below n)) e

@@ -1,0 +1,16 @@
+-- `mark` marks the first entries.
+use Rattle.std.proofs.Common.{◌≡◌, ℕ, ◌-◌, ◌<◌, ◌≤◌, ◌&&◌, eqb, ltb, List, length, get_or, take, sym, refl, subst, arith, length-set, rules}
+use Rattle.lists.specs.Lists.{all, distinct}
+use Rattle.lists.proofs.Loops.{all_take}
+use Rattle.lists.proofs.Union.{or_below}
+use Rattle.soundness.specs.Queue.{Seen, SeenOnce}
+use Rattle.soundness.proofs.Marking.{rests, seen_none, again_more, seen_more, marked}
+use Rattle.soundness.proofs.queue.mark.Given as goal
+
+abbrev pub invariant-loop-i : goal.invariant-loop-i
+invariant-loop-i l =
+    (l.i ≤ l.n) × (length l.seen ≡ 64)
+    × (eqb l.again 0 ≡ distinct (take l.i (rests l.queue))) × (ltb l.bits 64 ≡ all (λ t. ltb t 64) (take l.i l.queue)) × Seen l.seen (take l.i (rests l.queue))
+
+abbrev pub decreases-loop-i : goal.decreases-loop-i
+decreases-loop-i l = l.n - l.i

@@ -1,0 +1,15 @@
+-- `sound_threads` tests every thread's numbers.
+use Rattle.std.proofs.Common.{◌≡◌, ℕ, ◌-◌, ◌≤◌, ap, ◌∙◌, arith, rules, lt-ltb}
+use Rattle.lists.specs.Lists.{all, below}
+use Rattle.lists.proofs.Loops.{all_next}
+use Rattle.model.specs.Arrays.{columns}
+use Rattle.soundness.proofs.Clauses.{answer, fine, fine_more, fine_all}
+use Rattle.soundness.proofs.records.sound_threads.Given as goal
+
+abbrev pub invariant-loop-t : goal.invariant-loop-t
+invariant-loop-t l =
+    (l.t ≤ 64) × (answer l.count l.rest l.least l.most ≡ all (fine l.count (columns l.exists l.ready l.partitions l.priorities l.masks l.policies l.slices)) (below l.t))
+
+abbrev pub decreases-loop-t : goal.decreases-loop-t
+decreases-loop-t l =
+    64 - l.t

@@ -1,0 +1,29 @@
+use Rattle.std.proofs.Common.{◌≡◌, ℕ, ◌-◌, ◌≤◌, Bool, ◌&&◌, ◌||◌, eqb, ltb, List, get_or, refl, ap, ◌∙◌, arith, rules}
+use Rattle.lists.specs.Lists.{all, below}
+use Rattle.lists.proofs.Loops.{all_next}
+use Rattle.sheet.specs.Settings.{share}
+use Rattle.sheet.specs.declared.Settings.{Settings}
+use Rattle.soundness.specs.Refused.{rest_zero}
+use Rattle.soundness.proofs.Whole.{none_past}
+use Rattle.soundness.proofs.rest_zero.Goals as goal
+use Rattle.soundness.proofs.rest_zero.Invariants.{none}
+
+pub loop-p-init : goal.loop-p-init
+unfolding all below
+loop-p-init c = (omega arith, refl)
+
+pub loop-p-preserved : goal.loop-p-preserved
+loop-p-preserved c =
+    let a = c.args in
+    let turn = c.loop-p in (
+      omega arith,
+      none_past turn.p a.t1.count (share a.t1 turn.p) (get_or a.used.now turn.p 0) turn.bits c.past-bits.result c.past-bits.ensures
+          ∙ rw turn.invariant.1 (all_next (none a.t1 a.used.now) turn.p),
+    )
+
+pub returns : goal.returns
+unfolding rest_zero
+returns c =
+    let a = c.args in
+    let e : c.loop-p.p ≡ 16 = omega (arith, c.loop-p-test.false) in
+    c.loop-p.invariant.1 ∙ ap (λ (i : ℕ). all (none a.t1 a.used.now) (below i)) e

@@ -1,0 +1,21 @@
+use Rattle.std.proofs.Common.{◌≡◌, ℕ, ◌-◌, ◌≤◌, Bool, eqb, List, get_or, refl, ap, ◌∙◌, arith, rules}
+use Rattle.lists.specs.Lists.{all, below}
+use Rattle.lists.proofs.Loops.{all_next}
+use Rattle.soundness.proofs.sums.totals_agree.Goals as goal
+use Rattle.soundness.proofs.sums.totals_agree.Invariants.{agrees}
+
+pub loop-p-init : goal.loop-p-init
+unfolding all below
+loop-p-init c = (omega arith, refl)
+
+pub loop-p-preserved : goal.loop-p-preserved
+loop-p-preserved c =
+    let start = c in
+    let turn = c.loop-p in
+    (omega arith, rw turn.invariant.1 (all_next (agrees start.args.rows.now start.args.totals.now) turn.p))
+
+pub returns : goal.returns
+returns c =
+    let start = c in
+    let e : c.loop-p.p ≡ start.args.count = omega arith in
+    c.loop-p.invariant.1 ∙ ap (λ (n : ℕ). all (agrees start.args.rows.now start.args.totals.now) (below n)) e

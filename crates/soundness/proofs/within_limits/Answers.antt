@@ -1,0 +1,14 @@
+-- `within_limits` is the test of the settings.
+use Rattle.soundness.proofs.Limits.{limits_accepted, limits_refused}
+use Rattle.std.proofs.Common.{rules}
+use Rattle.soundness.proofs.within_limits.Goals as goal
+
+pub returns-in-Accepted : goal.returns-in-Accepted
+returns-in-Accepted c =
+    let limits = c.limits in
+    limits_accepted c.args.settings limits.result c.enum_told-1.given.1 limits.ensures
+
+pub returns-in-Refused : goal.returns-in-Refused
+returns-in-Refused c =
+    let limits = c.limits in
+    limits_refused c.args.settings limits.result c.enum_told-in-Refused-1.given.0.0 c.enum_told-in-Refused-1.given.1 limits.ensures

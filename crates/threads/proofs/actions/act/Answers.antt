@@ -1,0 +1,110 @@
+use mathlib.Core.Path.{◌≡◌, sym, ap, ◌∙◌}
+use mathlib.Core.Bool.{false}
+use mathlib.Core.List.{List}
+use Prim.Native.Nat.{ℕ, ◌<◌, ◌≤◌}
+use native.Mathlib.Omega.{arith}
+use lib.ListN.{take}
+use Rattle.model.specs.State.{State}
+use Rattle.model.specs.Event.{kind_of, thread_of, priority_of}
+use Rattle.model.specs.Arrays.{Columns, columns, with_ready_column, with_priority_column, threads_in, Tables, tables_in, with_tables}
+use Rattle.model.proofs.Table.{ready_put, priority_put}
+use Rattle.event.specs.declared.kinds.Action.{Action}
+use Rattle.event.specs.declared.kinds.Action.TheVariants.{Create, Ready, Block, SetPriority, End}
+use Rattle.event.specs.Kinds.{kind_number}
+use Rattle.event.specs.Bytes.{bytes_of}
+use Rattle.threads.specs.Entries.{queue_from}
+use Rattle.threads.proofs.ActionsLaws.{act_none, acted_create, acted_ready, acted_block, acted_priority, acted_end, place_of, own_kind, regular_ready, regular_priority, joined, regular_joined}
+use borrow.Author.Rules.{rules}
+use Rattle.threads.proofs.actions.act.Goals as goal
+
+abbrev bytes : goal.Start → List ℕ
+bytes c = bytes_of c.args.event
+
+abbrev threads : goal.Start → Columns
+threads c = let a = c.args in columns a.exists.now a.ready.now a.partitions.now a.priorities.now a.masks.now a.policies.now a.slices.now
+
+abbrev old : goal.Start → Tables
+old c = tables_in (threads c) c.args.queue.now c.args.queued
+
+-- what is asked of the thread, where the action is told
+inside : (c : goal.Start) (a : Action) → c.args.event.action ≡ a → 2 ≤ kind_number a → kind_number a ≤ 6 → thread_of (bytes c) < 64
+inside c a t lo hi = let k : kind_of (bytes c) ≡ kind_number a = ap kind_number t in c.requires.thread_inside (rw k lo) (rw k hi)
+
+pub create-requires : goal.create-requires
+create-requires c =
+    let at = c in
+    (inside at Create c.enum_told-1.given.1 (omega arith) (omega arith), at.requires.sizes)
+
+pub join-requires : goal.join-requires
+join-requires c =
+    let at = c in
+    let t = c.enum_told-in-Ready-1.given.1 in
+    (inside at Ready t (omega arith) (omega arith), at.requires.stored, at.requires.free (ap kind_number t))
+
+pub block-requires : goal.block-requires
+block-requires c =
+    let at = c in
+    (inside at Block c.enum_told-in-Block-1.given.1 (omega arith) (omega arith), at.requires.stored, at.requires.few, at.requires.once)
+
+pub set_priority-requires : goal.set_priority-requires
+set_priority-requires c =
+    let at = c in
+    let t = c.enum_told-in-SetPriority-1.given.1 in
+    (inside at SetPriority t (omega arith) (omega arith), at.requires.stored, at.requires.few, at.requires.once, at.requires.waits (ap kind_number t))
+
+pub forget-requires : goal.forget-requires
+forget-requires c =
+    let at = c in
+    (inside at End c.enum_told-in-End-1.given.1 (omega arith) (omega arith), at.requires.sizes)
+
+pub returns-in-Create : goal.returns-in-Create
+returns-in-Create c =
+    let at = c in
+    (acted_create (old at) (bytes at) _ (ap kind_number c.enum_told-1.given.1) c.create.ensures.0, c.create.ensures.1)
+
+pub returns-in-Ready : goal.returns-in-Ready
+returns-in-Ready c =
+    let at = c in
+    let t = c.enum_told-in-Ready-1.given.1 in
+    let low = inside at Ready t (omega arith) (omega arith) in
+    let e = c.join.ensures in (
+      acted_ready (old at) (bytes at) _ _ c.join.result (ap kind_number t) (joined (threads at) at.requires.sizes (thread_of (bytes at)) low _ _ e.0 e.1) e.2,
+      regular_joined (threads at) at.requires.sizes (thread_of (bytes at)) low _ _ e.0 e.1,
+    )
+
+pub returns-in-Block : goal.returns-in-Block
+returns-in-Block c =
+    let at = c in
+    let t = c.enum_told-in-Block-1.given.1 in
+    let low = inside at Block t (omega arith) (omega arith) in
+    let records = ap (λ (l : List ℕ). threads_in (with_ready_column (threads at) l)) c.block.ensures.0
+    ∙ ready_put (threads at) at.requires.sizes (thread_of (bytes at)) low false in (
+      acted_block (old at) (bytes at) _ _ c.block.result (ap kind_number t) records c.block.ensures.1,
+      regular_ready (threads at) at.requires.sizes (thread_of (bytes at)) low _ 0 (omega arith) c.block.ensures.0,
+    )
+
+pub returns-in-SetPriority : goal.returns-in-SetPriority
+returns-in-SetPriority c =
+    let at = c in
+    let t = c.enum_told-in-SetPriority-1.given.1 in
+    let low = inside at SetPriority t (omega arith) (omega arith) in
+    let e = c.set_priority.ensures in
+    let line = take at.args.queued at.args.queue.now in
+    let records = ap (λ (l : List ℕ). threads_in (with_priority_column (threads at) l)) e.0
+    ∙ priority_put (threads at) at.requires.sizes (thread_of (bytes at)) low (priority_of (bytes at)) in
+    let place = place_of (threads at) (thread_of (bytes at)) (priority_of (bytes at)) line low in (
+      acted_priority (old at) (bytes at) _ _ at.args.queued (ap kind_number t) records (e.1 ∙ ap queue_from place),
+      regular_priority (threads at) at.requires.sizes (thread_of (bytes at)) low _ (priority_of (bytes at)) e.0,
+    )
+
+pub returns-in-End : goal.returns-in-End
+returns-in-End c =
+    let at = c in
+    let t = c.enum_told-in-End-1.given.1 in
+    (acted_end (old at) (bytes at) _ _ c.leave.result (ap kind_number t) c.forget.ensures.0 c.leave.ensures, c.forget.ensures.1)
+
+pub returns-in-Unknown : goal.returns-in-Unknown
+returns-in-Unknown c =
+    let at = c in
+    let x = at.args.event.action in
+    ((λ (s : State). sym (act_none (with_tables s (old at)) (bytes at) x (own_kind x) c.in-Unknown.keys6)), at.requires.sizes)
