@@ -93,21 +93,24 @@ def split(name, block):
 
 class Names:
     def __init__(self, d):
-        self.needs = {}
-        for old, new in d["needs"]:
+        self.needs, self.asked = {}, {}
+        for (old, new), (place, _) in zip(d["needs"], d["asked_at"]):
             self.needs[norm(old)] = new
             self.needs.setdefault(norm(new), new)
-        self.fields = {}
-        self.places = {}
-        for place, by_name in zip(d["places"], d["places_by_name"]):
-            self.places[norm(place[0])] = by_name
+            self.asked[new] = norm(place)
+        self.places, self.steps, self.below = {}, {}, {}
+        for place, by_name, arm in zip(d["places"], d["places_by_name"], d["arms"]):
+            name = norm(place[0])
+            self.places[name] = by_name
+            self.below[name] = norm(place[1]) if place[1] else None
             old, new = place[2]
-            if old:
-                self.fields[norm(old)] = new
+            self.steps[name] = []
+            # what has a name of Rattle's own keeps it: a field of the author's may have the same
+            if old and (place[3] or re.match(r"(if|loop|in|match)\b", new) or not re.search(r"-\d+$", new)):
+                self.steps[name] = [(norm(old), new, arm[2] if arm else [])]
         self.loops = {}
         for ((old, new), variables), changed in zip(d["loops"], d["changed"]):
             self.loops[norm(old)] = (new, variables, changed)
-            self.fields[norm(old)] = new
 
     def goal(self, need):
         n = norm(need)
@@ -116,15 +119,32 @@ class Names:
                 return self.needs[it]
         return None
 
-    def path(self, text):
-        """Paths through the steps of a proof, which are all fields of the last one now."""
+    def path(self, text, place=None):
+        """Paths through the steps of a proof, which are all fields of the last one now. place: where the proof stands, if that is known."""
         text = re.sub(r"\.before(?![\w'-])", "", text)
+        steps = []
+        while place in self.steps:
+            steps += self.steps[place]
+            place = self.below[place]
+        if not steps:
+            steps = [s for name in self.steps for s in self.steps[name]]
+        fields = {}
+        for old, new, arm in steps:
+            fields.setdefault(old, (new, arm))
 
         def step(m):
-            new = self.fields.get(norm(m[1]))
-            return "." + new if new else m[0]
+            if norm(m[1]) not in fields:
+                return m[0]
+            new, arm = fields[norm(m[1])]
+            for name, old, inner in arm:
+                if inner and m[2] and m[2][1:] in inner:
+                    return f".{new}.{name}"
+            for name, old, inner in arm:
+                if not inner and m[2]:
+                    return f".{name}{m[2]}"
+            return "." + new + (m[2] or "")
 
-        return re.sub(rf"(?<=[\w')])\.({WORD})", step, text)
+        return re.sub(rf"(?<=[\w')])\.({WORD})(\.{WORD})?", lambda m: step(m) if norm(m[1]) in fields else m[0], text)
 
     def types(self, text, said):
         def place(m):
@@ -144,6 +164,10 @@ class Names:
             return "goal." + new
 
         return re.sub(rf"tie\.Need-({WORD})((?: (?:invariant|decreases)-[\w-]+)*)", need, text)
+
+    def place_in(self, sig):
+        m = re.search(rf"tie\.((?:In|At|After|Then|Else|Start|Arm|Untold)\d*(?:-{WORD})?)", sig)
+        return norm(m[1]) if m and norm(m[1]) in self.places else None
 
 
 def turn(path, d, crate, module):
@@ -213,7 +237,7 @@ def turn(path, d, crate, module):
             text = named(re.sub(rf"^{re.escape(name)} (\w+) κs\b", rf"{name} \1", text))
             if "κs" in text:
                 said.append(f"{new}: κs is used")
-            answers.append((comment, [f"pub {new} : goal.{new}"], unf, names.path(text)))
+            answers.append((comment, [f"pub {new} : goal.{new}"], unf, names.path(text, names.asked.get(new))))
             continue
         text = "\n".join(clauses)
         helpers.append((name, kind, comment, sig, unf, text))
@@ -247,14 +271,16 @@ def turn(path, d, crate, module):
             s = "\n".join(sig)
             if "pub" not in kind:
                 s = re.sub(rf"^((?:abbrev |unfoldable )?)({re.escape(name)})", r"\1pub \2", s)
-            pre.append((comment, [names.types(names.path(s), said)], unf, names.path(named(text))))
+            at = names.place_in(s)
+            pre.append((comment, [names.types(names.path(s, at), said)], unf, names.path(named(text), at)))
         text = "\n".join([*heads, *uses, f"use {base}.Given as goal"]) + "\n\n" + shown(pre + invariants)
         with open(os.path.join(folder, "Invariants.antt"), "w", encoding="utf-8") as f:
             f.write(text)
         wrote.append("Invariants")
     entries = []
     for name, kind, comment, sig, unf, text in todo:
-        entries.append((order[name], (comment, [names.types(names.path("\n".join(sig)), said)], unf, names.path(named(text)))))
+        at = names.place_in("\n".join(sig))
+        entries.append((order[name], (comment, [names.types(names.path("\n".join(sig), at), said)], unf, names.path(named(text), at))))
     mine = [e for _, e in entries] + answers
     if answers:
         more = [f"use {base}.Goals as goal"]

@@ -10,11 +10,11 @@ use Rattle.admission.proofs.too_long.Goals as goal
 pub returns-in-Resume : goal.returns-in-Resume
 returns-in-Resume c =
     let a = c.args in
-    sym (late_resume (kind_number a.action) a.new a.stamp a.since.0 a.tick.0 (ap kind_number c.enum_told-1.given.1))
+    sym (late_resume (kind_number a.action) a.new a.stamp a.since.0 a.tick.0 (ap kind_number c.enum_told.given.1))
 
 pub returns-in_default : goal.returns-in_default
 unfolding known
 returns-in_default c =
     let a = c.args in
     let others : List ℕ = 0 ∷ 1 ∷ 2 ∷ 3 ∷ 4 ∷ 5 ∷ 6 ∷ [] in
-    rw (late_other (kind_number a.action) a.new a.stamp a.since.0 a.tick.0 (other_kind a.action 7 others refl c.in_default.keys2 tt), ← c.elapsed-elapsed.ensures) c.above_two_ticks.ensures
+    rw (late_other (kind_number a.action) a.new a.stamp a.since.0 a.tick.0 (other_kind a.action 7 others refl c.in_default-own.keys2 tt), ← c.elapsed-elapsed.ensures) c.above_two_ticks.ensures

@@ -12,7 +12,7 @@ returns-then-not-formed c =
     let b = c.args.bytes.now in
     let f = c.formed in
     let u = c.form_of-form in
-    decoded_form b c.if-bytes-ne12.false u.result.uses-1 u.ensures.1 c.refuse-then-not-formed.result (sym f.ensures ∙ not-true f.result c.if-not-formed.true) c.refuse-then-not-formed.ensures
+    decoded_form b c.if-bytes-ne12.false u.result.uses u.ensures.1 c.refuse-then-not-formed.result (sym f.ensures ∙ not-true f.result c.if-not-formed.true) c.refuse-then-not-formed.ensures
 
 pub returns : goal.returns
 returns c =
@@ -20,5 +20,5 @@ returns c =
     let f = c.formed in
     let u = c.form_of-form in
     let s = c.stamp_of-stamp in
-    decoded_event b c.if-bytes-ne12.false u.result.uses-1 u.ensures.1 u.result.action s.result (sym f.ensures ∙ not-false f.result c.if-not-formed.false)
-    (λ i. (c.shared_slice_known-7-1.given i).fits) u.ensures.0 s.ensures
+    decoded_event b c.if-bytes-ne12.false u.result.uses u.ensures.1 u.result.action s.result (sym f.ensures ∙ not-false f.result c.if-not-formed.false)
+    (λ i. (c.shared-slice-known7.given i).fits) u.ensures.0 s.ensures

@@ -7,18 +7,18 @@ keep_settings-requires c =
     let t = c in
     let r = t.read_sheet-reading in
     let a = t.args in
-    sixteen a.sheet.now a.settings.now a.shares.now r.result.outcome-1 r.ensures.0 r.result.settings t.enum_told-1.given.1 r.ensures.1
+    sixteen a.sheet.now a.settings.now a.shares.now r.result.outcome r.ensures.0 r.result.settings t.enum_told.given.1 r.ensures.1
 
 pub returns-in-Refused : goal.returns-in-Refused
 returns-in-Refused c =
     let r = c.read_sheet-reading in
     let a = c.args in
-    let g = c.outcome-1.given in
-    read_no a.sheet.now a.settings.now a.shares.now r.result.outcome-1 r.ensures.0 g.0.0 _ g.1 c.number.ensures
+    let g = c.outcome.given in
+    read_no a.sheet.now a.settings.now a.shares.now r.result.outcome r.ensures.0 g.0.0 _ g.1 c.number.ensures
 
 pub returns-in-Accepted : goal.returns-in-Accepted
 returns-in-Accepted c =
     let t = c in
     let r = t.read_sheet-reading in
     let a = t.args in
-    read_yes a.sheet.now a.settings.now a.shares.now r.result.outcome-1 r.ensures.0 r.result.settings t.enum_told-1.given.1 r.ensures.1 _ _ c.keep_settings.ensures
+    read_yes a.sheet.now a.settings.now a.shares.now r.result.outcome r.ensures.0 r.result.settings t.enum_told.given.1 r.ensures.1 _ _ c.keep_settings.ensures

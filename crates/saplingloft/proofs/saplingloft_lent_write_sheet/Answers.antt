@@ -7,4 +7,4 @@ returns c =
     let a = c.args in
     let read = c.settings_in-s in
     let write = c.write_sheet-writing in
-    written_as a.settings.now a.shares.now a.sheet-1.now _ read.result write.result _ read.ensures write.ensures c.outcome_number.ensures
+    written_as a.settings.now a.shares.now a.sheet.now _ read.result write.result _ read.ensures write.ensures c.outcome_number.ensures

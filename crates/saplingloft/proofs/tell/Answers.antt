@@ -5,18 +5,18 @@ use Rattle.saplingloft.proofs.tell.Goals as goal
 pub word-requires : goal.word-requires
 word-requires c =
     let s = c in
-    let g = c.balance-in-Remaining-1.given in
-    narrow_read s.args.balance-1 s.args.remaining-1.now g.0.0 g.1 s.requires
+    let g = c.balance2.given in
+    narrow_read s.args.balance s.args.remaining.now g.0.0 g.1 s.requires
 
 pub returns-in-Refused : goal.returns-in-Refused
 returns-in-Refused c =
     let a = c.args in
-    let g = c.balance-1.given in
-    told_no a.balance-1 a.remaining-1.now g.0.0 c.number.result g.1 c.number.ensures
+    let g = c.balance.given in
+    told_no a.balance a.remaining.now g.0.0 c.number.result g.1 c.number.ensures
 
 pub returns-in-Remaining : goal.returns-in-Remaining
 returns-in-Remaining c =
     let s = c in
-    let g = c.balance-in-Remaining-1.given in
+    let g = c.balance2.given in
     let w = c.word in
-    told_yes s.args.balance-1 s.args.remaining-1.now g.0.0 g.1 s.requires w.result w.ensures
+    told_yes s.args.balance s.args.remaining.now g.0.0 g.1 s.requires w.result w.ensures

@@ -49,18 +49,18 @@ accept-requires c =
     let t = c in
     let a = (start t).args in
     let g = (start t).requires in
-    let f = c.enum_told-1.given.1 in
+    let f = c.enum_told.given.1 in
     let e = taken t f in
-    (g, taken_event a.settings a.used.now a.c (threads t) a.queue.now a.history-1.now a.budgets.now a.tops.now a.firsts.now a.sets a.favoured g (bytes_of (decoded t).decode-decoded.result.event) t.refused_event-outcome.result f (number t ∙ ap (refused_event (given t)) e.0), e.1 ∙ ap stamp_of e.0)
+    (g, taken_event a.settings a.used.now a.c (threads t) a.queue.now a.history.now a.budgets.now a.tops.now a.firsts.now a.sets a.favoured g (bytes_of (decoded t).decode-decoded.result.event) t.refused_event-outcome.result f (number t ∙ ap (refused_event (given t)) e.0), e.1 ∙ ap stamp_of e.0)
 
 pub returns-in-Refused : goal.returns-in-Refused
 returns-in-Refused c =
     let t = c in
     let a = (start t).args in
     let g = (start t).requires in (
-      subst (λ (z : Stepped). StepAnswered a.settings (saved (given t) a.history-1.now) a.event.now z.verdict a.used.now z.clock (threads t) a.queue.now a.history-1.now a.budgets.now a.tops.now a.firsts.now z.sets z.favoured) (sym c.refuse.ensures)
-          (no_event a.settings a.used.now a.c (threads t) a.queue.now a.history-1.now a.budgets.now a.tops.now a.firsts.now a.sets a.favoured g a.event.now t.refused_event-outcome.result _ c.outcome-1.given.1 (number t)),
-      λ _. same a.settings a.used.now a.c (threads t) a.queue.now a.history-1.now a.budgets.now a.tops.now a.firsts.now a.sets a.favoured g _ (ap (λ (z : Stepped). z.clock) c.refuse.ensures),
+      subst (λ (z : Stepped). StepAnswered a.settings (saved (given t) a.history.now) a.event.now z.verdict a.used.now z.clock (threads t) a.queue.now a.history.now a.budgets.now a.tops.now a.firsts.now z.sets z.favoured) (sym c.refuse.ensures)
+          (no_event a.settings a.used.now a.c (threads t) a.queue.now a.history.now a.budgets.now a.tops.now a.firsts.now a.sets a.favoured g a.event.now t.refused_event-outcome.result _ c.outcome.given.1 (number t)),
+      λ _. same a.settings a.used.now a.c (threads t) a.queue.now a.history.now a.budgets.now a.tops.now a.firsts.now a.sets a.favoured g _ (ap (λ (z : Stepped). z.clock) c.refuse.ensures),
     )
 
 pub returns-in-Accepted : goal.returns-in-Accepted
@@ -69,9 +69,9 @@ returns-in-Accepted c =
     let a = (start t).args in
     let g = (start t).requires in
     let d = c.accept in
-    let f = c.enum_told-1.given.1 in
+    let f = c.enum_told.given.1 in
     let e = taken t f in
     let b = bytes_of (decoded t).decode-decoded.result.event in (
-      subst (λ (l : List ℕ). StepAnswered a.settings (saved (given t) a.history-1.now) l d.result.verdict d.new.1.0 d.result.clock (columns d.new.1.1.0 d.new.1.1.1.0 d.new.1.1.1.1.0 d.new.1.1.1.1.1.0 d.new.1.1.1.1.1.1.0 d.new.1.1.1.1.1.1.1.0 d.new.1.1.1.1.1.1.1.1.0) d.new.1.1.1.1.1.1.1.1.1.0 d.new.1.1.1.1.1.1.1.1.1.1.1.1.1.0 a.budgets.now d.new.1.1.1.1.1.1.1.1.1.1.1.0 d.new.1.1.1.1.1.1.1.1.1.1.1.1.0 d.result.sets d.result.favoured) (sym e.0) d.ensures,
-      λ no. absurd (taken_still a.settings a.used.now a.c (threads t) a.queue.now a.history-1.now a.budgets.now a.tops.now a.firsts.now a.sets a.favoured g a.event.now b e.0 (taken_event a.settings a.used.now a.c (threads t) a.queue.now a.history-1.now a.budgets.now a.tops.now a.firsts.now a.sets a.favoured g b t.refused_event-outcome.result f (number t ∙ ap (refused_event (given t)) e.0)) no),
+      subst (λ (l : List ℕ). StepAnswered a.settings (saved (given t) a.history.now) l d.result.verdict d.new.1.0 d.result.clock (columns d.new.1.1.0 d.new.1.1.1.0 d.new.1.1.1.1.0 d.new.1.1.1.1.1.0 d.new.1.1.1.1.1.1.0 d.new.1.1.1.1.1.1.1.0 d.new.1.1.1.1.1.1.1.1.0) d.new.1.1.1.1.1.1.1.1.1.0 d.new.1.1.1.1.1.1.1.1.1.1.1.1.1.0 a.budgets.now d.new.1.1.1.1.1.1.1.1.1.1.1.0 d.new.1.1.1.1.1.1.1.1.1.1.1.1.0 d.result.sets d.result.favoured) (sym e.0) d.ensures,
+      λ no. absurd (taken_still a.settings a.used.now a.c (threads t) a.queue.now a.history.now a.budgets.now a.tops.now a.firsts.now a.sets a.favoured g a.event.now b e.0 (taken_event a.settings a.used.now a.c (threads t) a.queue.now a.history.now a.budgets.now a.tops.now a.firsts.now a.sets a.favoured g b t.refused_event-outcome.result f (number t ∙ ap (refused_event (given t)) e.0)) no),
     )

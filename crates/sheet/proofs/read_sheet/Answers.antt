@@ -10,7 +10,7 @@ use borrow.Author.Rules.{rules}
 use Rattle.sheet.proofs.read_sheet.Goals as goal
 
 -- past the first test the records are whole
-whole : (c : tie.Else1) → whole_records c.args.bytes.now ≡ true
+whole : (c : goal.Else-not-whole_records) → whole_records c.args.bytes.now ≡ true
 whole c = sym c.whole_records.ensures ∙ not-false c.whole_records.result c.if-not-whole_records.false
 
 pub returns-then-not-whole_records : goal.returns-then-not-whole_records
@@ -36,8 +36,8 @@ returns-in-Refused c =
     let start = c in
     let bs = start.args.bytes.now in
     let read = c.read_values-read in
-    let refused = c.outcome-1.given in
-    let test = by-test-2 (records_formed bs) (outcome_of read.result.outcome-1) read.ensures.0 (refused-number refused.0.0 refused.1 refl) in
+    let refused = c.outcome.given in
+    let test = by-test-2 (records_formed bs) (outcome_of read.result.outcome) read.ensures.0 (refused-number refused.0.0 refused.1 refl) in
     let (a, b) = read-form bs (whole start) test.0 in (
       ap outcome_of (c.zeros_beside-in-Refused.ensures.0 ∙ sym refused.1) ∙ test.1 ∙ sym a,
       c.zeros_beside-in-Refused.ensures.1 ∙ sym b,
@@ -48,7 +48,7 @@ returns-in-Accepted c =
     let start = c in
     let bs = start.args.bytes.now in
     let read = c.read_values-read in
-    let accepted : outcome_of read.result.outcome-1 ≡ 0 = ap outcome_of c.enum_told-1.given.1 in
-    let formed : records_formed bs ≡ true = by-test-0 (records_formed bs) (outcome_of read.result.outcome-1) read.ensures.0 accepted in
-    read-formed bs read.result.values-1 c.head_of-head.result c.settings_from.result.outcome-1 (whole start) formed read.ensures.1
+    let accepted : outcome_of read.result.outcome ≡ 0 = ap outcome_of c.enum_told.given.1 in
+    let formed : records_formed bs ≡ true = by-test-0 (records_formed bs) (outcome_of read.result.outcome) read.ensures.0 accepted in
+    read-formed bs read.result.values c.head_of-head.result c.settings_from.result.outcome (whole start) formed read.ensures.1
     c.head_of-head.ensures c.settings_from.ensures

@@ -12,7 +12,7 @@ returns-in-Refused c =
     let a = l.args in
     let made = settings-made a.t1 a.head a.n l.shares_from-shares.ensures l.edition_from-edition.ensures in
     let number : outcome_of l.limits-outcome.result ≡ refused_settings (settings_in a.t1 a.head a.n) = l.limits-outcome.ensures ∙ ap refused_settings made in
-    refused-answer (settings_in a.t1 a.head a.n) c.outcome-1.given.0.0 c.outcome-1.given.1 number
+    refused-answer (settings_in a.t1 a.head a.n) c.outcome.given.0.0 c.outcome.given.1 number
     c.zeros_beside.ensures.0 c.zeros_beside.ensures.1
 
 pub returns-in-Accepted : goal.returns-in-Accepted
@@ -21,4 +21,4 @@ returns-in-Accepted c =
     let a = l.args in
     let made = settings-made a.t1 a.head a.n l.shares_from-shares.ensures l.edition_from-edition.ensures in
     let number : outcome_of l.limits-outcome.result ≡ refused_settings (settings_in a.t1 a.head a.n) = l.limits-outcome.ensures ∙ ap refused_settings made in
-    accepted-answer c.enum_told-1.given.1 number made
+    accepted-answer c.enum_told.given.1 number made

@@ -51,7 +51,7 @@ loop-p-init c =
     let s = start.args.settings in (
       omega arith,
       rw c.stated_edition.ensures
-          (starts s.stated start.requires s.window.0 s.tick.0 s.policy s.core s.edition s.shares-1),
+          (starts s.stated start.requires s.window.0 s.tick.0 s.policy s.core s.edition s.shares),
     )
 
 pub loop-p-preserved : goal.loop-p-preserved
@@ -61,7 +61,7 @@ loop-p-preserved c =
     let s = start.args.settings in
     let room : 4 + s.stated + turn.p < 21 = omega (arith, start.requires, c.loop-p-test.true) in
     let first = stored s.window.0 s.tick.0 s.policy s.core c.stated_edition.result in
-    (omega arith, share-more (4 + s.stated) first turn.values s.shares-1 turn.p room turn.invariant.1)
+    (omega arith, share-more (4 + s.stated) first turn.values s.shares turn.p room turn.invariant.1)
 
 pub returns : goal.returns
 unfolding values_for value_of
@@ -71,4 +71,4 @@ returns c =
     let s = start.args.settings in
     let e : turn.p ≡ 16 = omega arith in
     turn.invariant.1 ∙ rw (e, c.stated_edition.ensures)
-    (rw (ends s.stated start.requires s.window.0 s.tick.0 s.policy s.core s.edition s.shares-1))
+    (rw (ends s.stated start.requires s.window.0 s.tick.0 s.policy s.core s.edition s.shares))

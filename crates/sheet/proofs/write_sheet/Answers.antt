@@ -20,21 +20,21 @@ returns-in_default c =
     let a = c.args in
     let number = c.refused_write-outcome.ensures in
     let (l, b) =
-    nothing_written a.settings a.buffer-1.now (refused-number c.enum_told-in_default-1.given.0.0 c.enum_told-in_default-1.given.1 number) in
+    nothing_written a.settings a.buffer.now (refused-number c.enum-told2.given.0.0 c.enum-told2.given.1 number) in
     (number, sym l, sym b)
 
 pub values_from-requires : goal.values_from-requires
 values_from-requires c =
     let a = c.args in
-    let (limits, room) = write-room a.settings (length a.buffer-1.now)
-    (accepted-number c.enum_told-1.given.1 c.refused_write-outcome.ensures) in
+    let (limits, room) = write-room a.settings (length a.buffer.now)
+    (accepted-number c.enum_told.given.1 c.refused_write-outcome.ensures) in
     (few a.settings limits).0
 
 pub write_records-requires : goal.write_records-requires
 write_records-requires c =
     let a = c.args in
-    let (limits, room) = write-room a.settings (length a.buffer-1.now)
-    (accepted-number c.enum_told-1.given.1 c.refused_write-outcome.ensures) in
+    let (limits, room) = write-room a.settings (length a.buffer.now)
+    (accepted-number c.enum_told.given.1 c.refused_write-outcome.ensures) in
     let (one, most) = few a.settings limits in
     (omega arith, room)
 
@@ -42,13 +42,13 @@ pub returns : goal.returns
 returns c =
     let a = c.args in
     let number = c.refused_write-outcome.ensures in
-    let none = accepted-number c.enum_told-1.given.1 number in
-    let (l, b) = all_written a.settings a.buffer-1.now none in
-    let (one, most) = few a.settings (write-room a.settings (length a.buffer-1.now) none).0 in
+    let none = accepted-number c.enum_told.given.1 number in
+    let (l, b) = all_written a.settings a.buffer.now none in
+    let (one, most) = few a.settings (write-room a.settings (length a.buffer.now) none).0 in
     let same = sheet_is a.settings one most c.values_from.ensures in (
       number,
       sym l,
       c.write_records.ensures
-          ∙ ap (λ (x : List ℕ). x ++ drop (sheet_length a.settings) a.buffer-1.now) same
+          ∙ ap (λ (x : List ℕ). x ++ drop (sheet_length a.settings) a.buffer.now) same
           ∙ sym b,
     )

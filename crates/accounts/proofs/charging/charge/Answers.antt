@@ -10,16 +10,16 @@ use Rattle.accounts.proofs.charging.charge.Goals as goal
 abbrev start : goal.Else-running-eq-IDLE → goal.Start
 start c = c
 
-known : (c : goal.Else-running-eq-IDLE) → Pays (start c).args.settings (start c).args.used.now (start c).args.c (start c).args.partitions.now (start c).args.history-1.now c.elapsed-amount.result.0
+known : (c : goal.Else-running-eq-IDLE) → Pays (start c).args.settings (start c).args.used.now (start c).args.c (start c).args.partitions.now (start c).args.history.now c.elapsed-amount.result.0
 known c =
     let a = (start c).args in
-    subst (λ (x : ℕ). Pays a.settings a.used.now a.c a.partitions.now a.history-1.now x) (sym c.elapsed-amount.ensures) ((start c).requires.pays c.if-running-eq-IDLE.false)
+    subst (λ (x : ℕ). Pays a.settings a.used.now a.c a.partitions.now a.history.now x) (sym c.elapsed-amount.ensures) ((start c).requires.pays c.if-running-eq-IDLE.false)
 
 pub returns-then-running-eq-IDLE : goal.returns-then-running-eq-IDLE
 returns-then-running-eq-IDLE c =
     let a = c.args in
     let e = c.elapsed-amount in
-    idles a.settings a.used.now a.c a.partitions.now a.history-1.now a.stamp e.result.0 e.ensures c.plus-since.result c.plus-since.ensures c.if-running-eq-IDLE.true
+    idles a.settings a.used.now a.c a.partitions.now a.history.now a.stamp e.result.0 e.ensures c.plus-since.result c.plus-since.ensures c.if-running-eq-IDLE.true
 
 pub bounds-partitions-running : goal.bounds-partitions-running
 bounds-partitions-running c = (known c).running
@@ -45,11 +45,11 @@ bounds-used-p-2 c = (known c).sixteen
 pub charge_slot-requires : goal.charge_slot-requires
 charge_slot-requires c =
     let k = known c in
-    (k.slot-1, k.row, k.number)
+    (k.slot, k.row, k.number)
 
 pub returns : goal.returns
 returns c =
     let d = c in
     let a = (start d).args in
     let e = d.elapsed-amount in
-    pays_for a.settings a.used.now a.c a.partitions.now a.history-1.now a.stamp e.result.0 e.ensures d.plus-since.result c.plus-total.result d.plus-since.ensures c.plus-total.ensures _ d.if-running-eq-IDLE.false (known d).running c.charge_slot.ensures
+    pays_for a.settings a.used.now a.c a.partitions.now a.history.now a.stamp e.result.0 e.ensures d.plus-since.result c.plus-total.result d.plus-since.ensures c.plus-total.ensures _ d.if-running-eq-IDLE.false (known d).running c.charge_slot.ensures

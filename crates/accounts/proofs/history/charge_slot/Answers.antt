@@ -13,9 +13,9 @@ charge_row-requires c =
     let a = start.args in
     let w = a.window.0 in
     let at = a.partition * w in
-    let long : length (take (at + w - at) (drop at a.history-1.now)) ≡ w = simp (length-take, length-drop) (omega (arith, start.requires)) in
+    let long : length (take (at + w - at) (drop at a.history.now)) ≡ w = simp (length-take, length-drop) (omega (arith, start.requires)) in
     let inside : a.slot.0 < at + w - at = omega (arith, start.requires) in
-    (omega (arith, start.requires), omega (arith, start.requires, part_at a.history-1.now at (at + w - at) a.slot.0 inside))
+    (omega (arith, start.requires), omega (arith, start.requires, part_at a.history.now at (at + w - at) a.slot.0 inside))
 
 pub returns : goal.returns
 returns c =
@@ -24,5 +24,5 @@ returns c =
     let w = a.window.0 in
     let at = a.partition * w in
     let inside : a.slot.0 < at + w - at = omega (arith, start.requires) in
-    ap (put_mid at (at + w - at) a.history-1.now) c.charge_row.ensures
-    ∙ part_added a.history-1.now at (at + w - at) a.slot.0 a.amount.0 inside
+    ap (put_mid at (at + w - at) a.history.now) c.charge_row.ensures
+    ∙ part_added a.history.now at (at + w - at) a.slot.0 a.amount.0 inside

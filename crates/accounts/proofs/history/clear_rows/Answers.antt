@@ -13,7 +13,7 @@ use Rattle.accounts.proofs.history.clear_rows.Goals as goal
 
 -- this turn's row lies within the history
 ends : (c : goal.In-loop-p)
-    → c.loop-p.p * c.args.window.0 + c.args.window.0 ≤ length c.loop-p.history-1
+    → c.loop-p.p * c.args.window.0 + c.args.window.0 ≤ length c.loop-p.history
 ends c =
     let start = c in
     let turn = c.loop-p in
@@ -22,7 +22,7 @@ ends c =
 pub loop-p-init : goal.loop-p-init
 loop-p-init c =
     let a = c.args in
-    (omega arith, cleared_none a.window.0 a.history-1.now, refl)
+    (omega arith, cleared_none a.window.0 a.history.now, refl)
 
 pub overflow_mul-start : goal.overflow_mul-start
 overflow_mul-start c = omega (arith, ends c)
@@ -50,15 +50,15 @@ loop-p-preserved c =
     let start = c in
     let turn = c.loop-p in
     let here = c in
-    let h = start.args.history-1.now in
+    let h = start.args.history.now in
     let w = start.args.window.0 in
     let at = turn.p * w in
     let n = at + w - at in
     let size : n ≡ w = omega arith in
-    let long : length (take n (drop at turn.history-1)) ≡ w = simp (length-take, length-drop) (omega (arith, ends here)) in
+    let long : length (take n (drop at turn.history)) ≡ w = simp (length-take, length-drop) (omega (arith, ends here)) in
     let row = c.clear_row.ensures ∙ ap (λ (k : ℕ). replicate k 0) long in
-    let more = cleared_more w turn.p n h turn.history-1 (replicate w 0) size refl turn.invariant.1 in
-    let back = ap (put_mid at n turn.history-1) row ∙ more in
+    let more = cleared_more w turn.p n h turn.history (replicate w 0) size refl turn.invariant.1 in
+    let back = ap (put_mid at n turn.history) row ∙ more in
     let next : (turn.p + 1) * w ≡ at + w = rw (add-one, suc-mul turn.p w) (omega arith) in
     let room : (turn.p + 1) * w ≤ length h = omega (arith, next, ends here, turn.invariant.2) in
     (omega (arith, here.loop-p-test.true), back, ap length back ∙ cleared_length w (turn.p + 1) h room)

@@ -14,7 +14,7 @@ use Rattle.accounts.proofs.solvency.clear_slot.Goals as goal
 
 -- the row of this turn's partition lies within the history
 ends : (c : goal.In-loop-p)
-    → c.loop-p.p * c.args.window.0 + c.args.window.0 ≤ length c.loop-p.history-1
+    → c.loop-p.p * c.args.window.0 + c.args.window.0 ≤ length c.loop-p.history
 ends c =
     let start = c in
     omega (arith, row_end c.loop-p.p start.args.count start.args.window.0 c.loop-p-test.true, c.loop-p.invariant.3, start.requires.1.rows)
@@ -59,7 +59,7 @@ clear_in_row-set-requires c =
       low d,
       turn.invariant.4,
       simp (length-take, length-drop) (omega (arith, ends d, start.requires.1.inside)),
-      clear_covers a.window.0 a.slot.0 a.used.now a.history-1.now turn.p (at + a.window.0 - at) turn.used turn.history-1 start.requires.1.inside inside
+      clear_covers a.window.0 a.slot.0 a.used.now a.history.now turn.p (at + a.window.0 - at) turn.used turn.history start.requires.1.inside inside
           turn.invariant.1 turn.invariant.2 (start.requires.1.covers turn.p d.loop-p-test.true),
     )
 
@@ -72,17 +72,17 @@ loop-p-preserved c =
     let row = c.clear_in_row-set in
     let at = turn.p * a.window.0 in
     let inside : a.slot.0 < at + a.window.0 - at = omega (arith, start.requires.1.inside) in
-    let back = ap (put_mid at (at + a.window.0 - at) turn.history-1) row.ensures.1 in
-    let more = clear_place a.window.0 a.slot.0 a.used.now a.history-1.now turn.p (at + a.window.0 - at) turn.used turn.history-1 start.requires.1.inside inside
+    let back = ap (put_mid at (at + a.window.0 - at) turn.history) row.ensures.1 in
+    let more = clear_place a.window.0 a.slot.0 a.used.now a.history.now turn.p (at + a.window.0 - at) turn.used turn.history start.requires.1.inside inside
     turn.invariant.1 turn.invariant.2 in
-    let total = clear_total a.window.0 a.slot.0 a.used.now a.history-1.now turn.p (at + a.window.0 - at) turn.used turn.history-1 start.requires.1.inside inside
+    let total = clear_total a.window.0 a.slot.0 a.used.now a.history.now turn.p (at + a.window.0 - at) turn.used turn.history start.requires.1.inside inside
     turn.invariant.1 turn.invariant.2 in
-    let v = get_or turn.used turn.p 0 - get_or (take (at + a.window.0 - at) (drop at turn.history-1)) a.slot.0 0 in
+    let v = get_or turn.used turn.p 0 - get_or (take (at + a.window.0 - at) (drop at turn.history)) a.slot.0 0 in
     let long = length-set turn.used turn.p v in (
       omega (arith, turn.invariant.0, d.loop-p-test.true),
       row.ensures.0 ∙ total,
       back ∙ more,
-      ap length (back ∙ more) ∙ clear_length a.window.0 a.slot.0 (turn.p + 1) a.history-1.now,
+      ap length (back ∙ more) ∙ clear_length a.window.0 a.slot.0 (turn.p + 1) a.history.now,
       ap length row.ensures.0 ∙ long ∙ turn.invariant.4,
       reweighed_twice a.used.now turn.used row.new.0 a.budgets.now a.need.0 a.solvent turn.set row.result turn.invariant.5 row.ensures.2,
     )
@@ -96,7 +96,7 @@ returns c =
     let a = start.args in
     let turn = c.loop-p in
     let e : turn.p ≡ a.count = omega (arith, turn.invariant.0, c.loop-p-test.false) in (
-      turn.invariant.1 ∙ ap (λ (n : ℕ). lowered a.window.0 a.slot.0 n a.used.now a.history-1.now) e,
-      turn.invariant.2 ∙ ap (λ (n : ℕ). clear_history a.window.0 a.slot.0 n a.history-1.now) e,
+      turn.invariant.1 ∙ ap (λ (n : ℕ). lowered a.window.0 a.slot.0 n a.used.now a.history.now) e,
+      turn.invariant.2 ∙ ap (λ (n : ℕ). clear_history a.window.0 a.slot.0 n a.history.now) e,
       turn.invariant.5,
     )

@@ -56,8 +56,8 @@ loop-p-preserved c =
     let b = c.budget-b in
     let few = low c in (
       omega (arith, c.loop-p-test.true),
-      length-set turn.budgets-1 turn.p b.result.0 ∙ turn.invariant.1,
-      amounts_more s turn.p few turn.budgets-1 b.result.0 turn.invariant.1 b.ensures turn.invariant.2,
+      length-set turn.budgets turn.p b.result.0 ∙ turn.invariant.1,
+      amounts_more s turn.p few turn.budgets b.result.0 turn.invariant.1 b.ensures turn.invariant.2,
       paying_more s turn.p few turn.paying c.mark-paying.result b.result.0 b.ensures c.mark-paying.ensures turn.invariant.3,
     )
 

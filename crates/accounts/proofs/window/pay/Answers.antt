@@ -11,7 +11,7 @@ pub returns-then-running-eq-IDLE : goal.returns-then-running-eq-IDLE
 returns-then-running-eq-IDLE c =
     let a = c.args in
     let d = c.charge-clock in
-    (d.ensures, idle_weighed a.settings a.used.now a.c a.partitions.now a.history-1.now d.new.1.0 d.result _ a.stamp d.ensures a.budgets.now (need a.settings) a.solvent c.if-running-eq-IDLE.true)
+    (d.ensures, idle_weighed a.settings a.used.now a.c a.partitions.now a.history.now d.new.1.0 d.result _ a.stamp d.ensures a.budgets.now (need a.settings) a.solvent c.if-running-eq-IDLE.true)
 
 pub overflow_cast-p : goal.overflow_cast-p
 overflow_cast-p c = omega (arith, (c.requires.pays c.if-running-eq-IDLE.false).running)
@@ -31,5 +31,5 @@ returns c =
     let n = c.need-need in
     let on = c.if-running-eq-IDLE.false in
     let pays = start.requires.pays on in
-    let paid = paid_weighed a.settings a.used.now a.c a.partitions.now a.history-1.now d.new.1.0 d.result _ a.stamp d.ensures a.budgets.now n.result.0 a.solvent c.weigh_at-set.result on pays.running pays.sixteen c.weigh_at-set.ensures in
+    let paid = paid_weighed a.settings a.used.now a.c a.partitions.now a.history.now d.new.1.0 d.result _ a.stamp d.ensures a.budgets.now n.result.0 a.solvent c.weigh_at-set.result on pays.running pays.sixteen c.weigh_at-set.ensures in
     (d.ensures, subst (λ (x : ℕ). Reweighed a.used.now d.new.1.0 a.budgets.now x a.solvent c.weigh_at-set.result) n.ensures paid)

@@ -11,6 +11,6 @@ pub returns : goal.returns
 unfolding need
 returns c =
     let a = c.args in (
-      restarted a.settings a.used-1.now a.c a.history-1.now _ a.stamp c.clear_rows.ensures,
+      restarted a.settings a.used.now a.c a.history.now _ a.stamp c.clear_rows.ensures,
       subst (λ (x : ℕ). WeighedIn (replicate 16 0) a.budgets.now x a.settings.count c.weigh_all-set.result) c.need-need.ensures c.weigh_all-set.ensures,
     )

@@ -44,4 +44,4 @@ returns c =
     let a = start.args in
     let turn = c.loop-i in
     let e : turn.i ≡ a.queued = omega arith in
-    subst (λ (k : ℕ). KeptIn a.core a.partitions.now a.priorities.now a.masks.now (take k a.queue.now) turn.tops-1 turn.firsts-1 turn.set) e turn.invariant.1
+    subst (λ (k : ℕ). KeptIn a.core a.partitions.now a.priorities.now a.masks.now (take k a.queue.now) turn.tops turn.firsts turn.set) e turn.invariant.1

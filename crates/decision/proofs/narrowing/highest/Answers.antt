@@ -55,7 +55,7 @@ loop-left-preserved c =
     let left = c.rest-left-in-loop-left in
     let (b, e, h) = turn.invariant in
     passed_value (on_priority tops) (tops_ordered tops) ℕ compare_numbers (λ p. get_or tops p 0) (λ p q. refl) start.args.among turn.left turn.peak.kept b
-    next.result left.result turn.peak.top-1 (get_or tops next.result 0) c.raise-peak.result.top-1 c.raise-peak.result.kept h next.ensures
+    next.result left.result turn.peak.top (get_or tops next.result 0) c.raise-peak.result.top c.raise-peak.result.kept h next.ensures
     (left.ensures.1 next.result next.ensures) e refl c.raise-peak.ensures
 
 pub returns : goal.returns

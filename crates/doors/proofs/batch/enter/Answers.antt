@@ -8,13 +8,13 @@ pub begin-sets-requires : goal.begin-sets-requires
 begin-sets-requires c =
     let start = c in
     let a = start.args in
-    begins a.settings a.used.now a.c (columns a.exists.now a.ready.now a.partitions.now a.priorities.now a.masks.now a.policies.now a.slices.now) a.queue.now a.history-1.now start.requires.0 start.requires.1
+    begins a.settings a.used.now a.c (columns a.exists.now a.ready.now a.partitions.now a.priorities.now a.masks.now a.policies.now a.slices.now) a.queue.now a.history.now start.requires.0 start.requires.1
 
 pub favoured_in-favoured-requires : goal.favoured_in-favoured-requires
 favoured_in-favoured-requires c =
     let start = c in
     let a = start.args in
-    working a.settings a.used.now a.c (columns a.exists.now a.ready.now a.partitions.now a.priorities.now a.masks.now a.policies.now a.slices.now) a.queue.now a.history-1.now start.requires.0 start.requires.1
+    working a.settings a.used.now a.c (columns a.exists.now a.ready.now a.partitions.now a.priorities.now a.masks.now a.policies.now a.slices.now) a.queue.now a.history.now start.requires.0 start.requires.1
 
 pub steps-requires : goal.steps-requires
 steps-requires c =
@@ -23,7 +23,7 @@ steps-requires c =
     let b = c.begin-sets in
     let f = c.favoured_in-favoured in
     let n = c.least-n.ensures in (
-      whole a.settings a.used.now a.c (columns a.exists.now a.ready.now a.partitions.now a.priorities.now a.masks.now a.policies.now a.slices.now) a.queue.now a.history-1.now start.requires.0 start.requires.1 b.new.1.1.1.1.1.1.1.0 b.new.1.1.1.1.1.1.1.1.0 b.new.1.1.1.1.1.1.1.1.1.0 b.result f.result b.ensures f.ensures,
+      whole a.settings a.used.now a.c (columns a.exists.now a.ready.now a.partitions.now a.priorities.now a.masks.now a.policies.now a.slices.now) a.queue.now a.history.now start.requires.0 start.requires.1 b.new.1.1.1.1.1.1.1.0 b.new.1.1.1.1.1.1.1.1.0 b.new.1.1.1.1.1.1.1.1.1.0 b.result f.result b.ensures f.ensures,
       omega (arith, n),
       omega (arith, n),
     )
@@ -34,5 +34,5 @@ returns c =
     let a = start.args in
     let f = c.steps in
     let n = c.least-n in
-    finished a.settings a.used.now a.c (columns a.exists.now a.ready.now a.partitions.now a.priorities.now a.masks.now a.policies.now a.slices.now) a.queue.now a.history-1.now start.requires.0 start.requires.1 f.new.1.0 f.result _ _ _
-    a.events.now a.out-1.now n.result n.ensures f.new.1.1.1.1.1.1.1.1.1.1.1.1.1.1.1.1.1.1.0 f.ensures.0 f.ensures.1 f.ensures.2
+    finished a.settings a.used.now a.c (columns a.exists.now a.ready.now a.partitions.now a.priorities.now a.masks.now a.policies.now a.slices.now) a.queue.now a.history.now start.requires.0 start.requires.1 f.new.1.0 f.result _ _ _
+    a.events.now a.out.now n.result n.ensures f.new.1.1.1.1.1.1.1.1.1.1.1.1.1.1.1.1.1.1.0 f.ensures.0 f.ensures.1 f.ensures.2

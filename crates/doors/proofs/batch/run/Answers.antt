@@ -15,7 +15,7 @@ start c = c
 abbrev given : goal.After-refused_state-outcome → Lent
 given c =
     let a = (start c).args in
-    lent a.settings.now a.shares.now a.used.now a.clock.now (columns a.exists.now a.ready.now a.partitions.now a.priorities.now a.masks.now a.policies.now a.slices.now) a.queue.now a.history-1.now
+    lent a.settings.now a.shares.now a.used.now a.clock.now (columns a.exists.now a.ready.now a.partitions.now a.priorities.now a.masks.now a.policies.now a.slices.now) a.queue.now a.history.now
 
 abbrev read : goal.After-refused_state-outcome → goal.After-settings_in-s
 read c = c
@@ -36,17 +36,17 @@ ready-room c =
 pub enter-k-requires : goal.enter-k-requires
 enter-k-requires c =
     let t = c in
-    (ready-room t, sym t.refused_state-outcome.ensures ∙ ap outcome_of c.enum_told-in-Accepted-1.given.1)
+    (ready-room t, sym t.refused_state-outcome.ensures ∙ ap outcome_of c.enum-told2.given.1)
 
 pub returns-in-Refused : goal.returns-in-Refused
 returns-in-Refused c =
     let t = c in
-    let o = c.enum_told-1.given in
-    ran_no (given t) (read t).settings_in-s.result (timed t).clock_in-c.result (read t).settings_in-s.ensures (timed t).clock_in-c.ensures (lengths t) (start t).args.events.now (start t).args.out-1.now t.refused_state-outcome.result o.0.0 o.1 t.refused_state-outcome.ensures
+    let o = c.enum_told.given in
+    ran_no (given t) (read t).settings_in-s.result (timed t).clock_in-c.result (read t).settings_in-s.ensures (timed t).clock_in-c.ensures (lengths t) (start t).args.events.now (start t).args.out.now t.refused_state-outcome.result o.0.0 o.1 t.refused_state-outcome.ensures
 
 pub returns-in-Accepted : goal.returns-in-Accepted
 returns-in-Accepted c =
     let t = c in
     let f = c.enter-k in
-    ran_yes (given t) (read t).settings_in-s.result (timed t).clock_in-c.result (read t).settings_in-s.ensures (timed t).clock_in-c.ensures f.new.1.0 f.result _ _ _ c.keep.new.0 (lengths t) (start t).args.events.now (start t).args.out-1.now f.new.1.1.1.1.1.1.1.1.1.1.1.1.1.0 t.refused_state-outcome.result
-    c.enum_told-in-Accepted-1.given.1 t.refused_state-outcome.ensures f.ensures c.keep.ensures
+    ran_yes (given t) (read t).settings_in-s.result (timed t).clock_in-c.result (read t).settings_in-s.ensures (timed t).clock_in-c.ensures f.new.1.0 f.result _ _ _ c.keep.new.0 (lengths t) (start t).args.events.now (start t).args.out.now f.new.1.1.1.1.1.1.1.1.1.1.1.1.1.0 t.refused_state-outcome.result
+    c.enum-told2.given.1 t.refused_state-outcome.ensures f.ensures c.keep.ensures

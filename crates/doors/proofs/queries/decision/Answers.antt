@@ -38,23 +38,23 @@ ready-room c =
 pub begin-sets-requires : goal.begin-sets-requires
 begin-sets-requires c =
     let t = c in
-    begins (read t).settings_in-s.result (given t).used (timed t).clock_in-c.result (given t).threads (given t).queue (given t).history (ready-room t) (sym t.refused_state-outcome.ensures ∙ ap outcome_of c.enum_told-1.given.1)
+    begins (read t).settings_in-s.result (given t).used (timed t).clock_in-c.result (given t).threads (given t).queue (given t).history (ready-room t) (sym t.refused_state-outcome.ensures ∙ ap outcome_of c.enum_told.given.1)
 
 pub favoured_in-favoured-requires : goal.favoured_in-favoured-requires
 favoured_in-favoured-requires c =
     let t = c in
-    working (read t).settings_in-s.result (given t).used (timed t).clock_in-c.result (given t).threads (given t).queue (given t).history (ready-room t) (sym t.refused_state-outcome.ensures ∙ ap outcome_of c.enum_told-1.given.1)
+    working (read t).settings_in-s.result (given t).used (timed t).clock_in-c.result (given t).threads (given t).queue (given t).history (ready-room t) (sym t.refused_state-outcome.ensures ∙ ap outcome_of c.enum_told.given.1)
 
 pub returns-in-Refused : goal.returns-in-Refused
 returns-in-Refused c =
     let t = c in
-    let g = c.outcome-1.given in
+    let g = c.outcome.given in
     decision_no (given t) (read t).settings_in-s.result (timed t).clock_in-c.result (read t).settings_in-s.ensures (timed t).clock_in-c.ensures t.refused_state-outcome.result t.refused_state-outcome.ensures g.0.0 g.1
 
 pub returns-in-Accepted : goal.returns-in-Accepted
 returns-in-Accepted c =
     let t = c in
-    let f = c.enum_told-1.given.1 in
+    let f = c.enum_told.given.1 in
     let z = sym t.refused_state-outcome.ensures ∙ ap outcome_of f in
     let x = given t in
     let s = (read t).settings_in-s.result in

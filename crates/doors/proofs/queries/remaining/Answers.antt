@@ -31,7 +31,7 @@ timed c = c
 
 -- the settings are within their limits, and the partition is one of theirs
 within : (c : goal.Else-s-partition) → Limits (read c).settings_in-s.result
-within c = let t = c in limits (given t) (read t).settings_in-s.result (timed t).clock_in-c.result (read t).settings_in-s.ensures (timed t).clock_in-c.ensures t.refused_state-outcome.result t.refused_state-outcome.ensures c.enum_told-1.given.1
+within c = let t = c in limits (given t) (read t).settings_in-s.result (timed t).clock_in-c.result (read t).settings_in-s.ensures (timed t).clock_in-c.ensures t.refused_state-outcome.result t.refused_state-outcome.ensures c.enum_told.given.1
 
 inside : (c : goal.Else-s-partition) → (start c).args.partition < 16
 inside c = omega (arith, c.if-s-partition.false, (within c).count_high)
@@ -39,7 +39,7 @@ inside c = omega (arith, c.if-s-partition.false, (within c).count_high)
 pub returns-then-s-partition : goal.returns-then-s-partition
 returns-then-s-partition c =
     let t = c in
-    remaining-place (given t) (read t).settings_in-s.result (timed t).clock_in-c.result (read t).settings_in-s.ensures (timed t).clock_in-c.ensures t.refused_state-outcome.result t.refused_state-outcome.ensures c.enum_told-1.given.1 (start t).args.partition c.if-s-partition.true
+    remaining-place (given t) (read t).settings_in-s.result (timed t).clock_in-c.result (read t).settings_in-s.ensures (timed t).clock_in-c.ensures t.refused_state-outcome.result t.refused_state-outcome.ensures c.enum_told.given.1 (start t).args.partition c.if-s-partition.true
 
 pub bounds-s-p : goal.bounds-s-p
 bounds-s-p c = inside c
@@ -57,7 +57,7 @@ bounds-used-p c = inside c
 pub returns-in-Refused : goal.returns-in-Refused
 returns-in-Refused c =
     let t = c in
-    let g = c.outcome-1.given in
+    let g = c.outcome.given in
     remaining-no (given t) (read t).settings_in-s.result (timed t).clock_in-c.result (read t).settings_in-s.ensures (timed t).clock_in-c.ensures t.refused_state-outcome.result t.refused_state-outcome.ensures (start t).args.partition g.0.0 g.1
 
 pub returns-else-s-partition : goal.returns-else-s-partition
@@ -68,6 +68,6 @@ returns-else-s-partition c =
     let p = (start t).args.partition in
     let total = get_or (given t).used p 0 in
     let hb : whole.result.0 < 2 ^ 32 = omega arith in
-    let hu : total < 2 ^ 32 = used_low (given t) (read t).settings_in-s.result (timed t).clock_in-c.result (read t).settings_in-s.ensures (timed t).clock_in-c.ensures t.refused_state-outcome.result t.refused_state-outcome.ensures d.enum_told-1.given.1 p d.if-s-partition.false in
+    let hu : total < 2 ^ 32 = used_low (given t) (read t).settings_in-s.result (timed t).clock_in-c.result (read t).settings_in-s.ensures (timed t).clock_in-c.ensures t.refused_state-outcome.result t.refused_state-outcome.ensures d.enum_told.given.1 p d.if-s-partition.false in
     let fits : SFits w64 c.remaining.result = rw c.remaining.ensures (remaining_fits whole.result.0 total hb hu) in
-    remaining_yes (given t) (read t).settings_in-s.result (timed t).clock_in-c.result (read t).settings_in-s.ensures (timed t).clock_in-c.ensures t.refused_state-outcome.result t.refused_state-outcome.ensures d.enum_told-1.given.1 p d.if-s-partition.false _ whole.result.0 whole.ensures (to_z-of_z fits ∙ c.remaining.ensures)
+    remaining_yes (given t) (read t).settings_in-s.result (timed t).clock_in-c.result (read t).settings_in-s.ensures (timed t).clock_in-c.ensures t.refused_state-outcome.result t.refused_state-outcome.ensures d.enum_told.given.1 p d.if-s-partition.false _ whole.result.0 whole.ensures (to_z-of_z fits ∙ c.remaining.ensures)

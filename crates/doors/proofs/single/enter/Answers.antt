@@ -7,13 +7,13 @@ pub begin-sets-requires : goal.begin-sets-requires
 begin-sets-requires c =
     let start = c in
     let a = start.args in
-    begins a.settings a.used.now a.c (columns a.exists.now a.ready.now a.partitions.now a.priorities.now a.masks.now a.policies.now a.slices.now) a.queue.now a.history-1.now start.requires.0 start.requires.1
+    begins a.settings a.used.now a.c (columns a.exists.now a.ready.now a.partitions.now a.priorities.now a.masks.now a.policies.now a.slices.now) a.queue.now a.history.now start.requires.0 start.requires.1
 
 pub favoured_in-favoured-requires : goal.favoured_in-favoured-requires
 favoured_in-favoured-requires c =
     let start = c in
     let a = start.args in
-    working a.settings a.used.now a.c (columns a.exists.now a.ready.now a.partitions.now a.priorities.now a.masks.now a.policies.now a.slices.now) a.queue.now a.history-1.now start.requires.0 start.requires.1
+    working a.settings a.used.now a.c (columns a.exists.now a.ready.now a.partitions.now a.priorities.now a.masks.now a.policies.now a.slices.now) a.queue.now a.history.now start.requires.0 start.requires.1
 
 pub step-s-requires : goal.step-s-requires
 step-s-requires c =
@@ -21,7 +21,7 @@ step-s-requires c =
     let a = start.args in
     let b = c.begin-sets in
     let f = c.favoured_in-favoured in
-    whole a.settings a.used.now a.c (columns a.exists.now a.ready.now a.partitions.now a.priorities.now a.masks.now a.policies.now a.slices.now) a.queue.now a.history-1.now start.requires.0 start.requires.1 b.new.1.1.1.1.1.1.1.0 b.new.1.1.1.1.1.1.1.1.0 b.new.1.1.1.1.1.1.1.1.1.0 b.result f.result b.ensures f.ensures
+    whole a.settings a.used.now a.c (columns a.exists.now a.ready.now a.partitions.now a.priorities.now a.masks.now a.policies.now a.slices.now) a.queue.now a.history.now start.requires.0 start.requires.1 b.new.1.1.1.1.1.1.1.0 b.new.1.1.1.1.1.1.1.1.0 b.new.1.1.1.1.1.1.1.1.1.0 b.result f.result b.ensures f.ensures
 
 pub returns : goal.returns
 returns c =
@@ -29,5 +29,5 @@ returns c =
     let a = start.args in
     let b = c.begin-sets in
     let f = c.step-s in
-    entered a.settings a.used.now a.c (columns a.exists.now a.ready.now a.partitions.now a.priorities.now a.masks.now a.policies.now a.slices.now) a.queue.now a.history-1.now start.requires.0 start.requires.1 f.new.1.0 f.result.clock-1 _ _ _
+    entered a.settings a.used.now a.c (columns a.exists.now a.ready.now a.partitions.now a.priorities.now a.masks.now a.policies.now a.slices.now) a.queue.now a.history.now start.requires.0 start.requires.1 f.new.1.0 f.result.clock _ _ _
     a.event.now f.result.verdict b.new.1.1.1.1.1.1.1.0 f.new.1.1.1.1.1.1.1.1.1.1.1.0 f.new.1.1.1.1.1.1.1.1.1.1.1.1.0 f.result.sets f.result.favoured f.ensures.0 f.ensures.1

@@ -16,7 +16,7 @@ start c = c
 abbrev given : goal.After-refused_state-outcome → Lent
 given c =
     let a = (start c).args in
-    lent a.settings.now a.shares.now a.used.now a.clock.now (columns a.exists.now a.ready.now a.partitions.now a.priorities.now a.masks.now a.policies.now a.slices.now) a.queue.now a.history-1.now
+    lent a.settings.now a.shares.now a.used.now a.clock.now (columns a.exists.now a.ready.now a.partitions.now a.priorities.now a.masks.now a.policies.now a.slices.now) a.queue.now a.history.now
 
 abbrev read : goal.After-refused_state-outcome → goal.After-settings_in-s
 read c = c
@@ -37,12 +37,12 @@ ready-room c =
 pub enter-reply-requires : goal.enter-reply-requires
 enter-reply-requires c =
     let t = c in
-    (ready-room t, sym t.refused_state-outcome.ensures ∙ ap outcome_of c.enum_told-1.given.1)
+    (ready-room t, sym t.refused_state-outcome.ensures ∙ ap outcome_of c.enum_told.given.1)
 
 pub returns-in-Refused : goal.returns-in-Refused
 returns-in-Refused c =
     let t = c in
-    let o = c.outcome-1.given in
+    let o = c.outcome.given in
     answered_no (given t) (read t).settings_in-s.result (timed t).clock_in-c.result (read t).settings_in-s.ensures (timed t).clock_in-c.ensures (lengths t) (start t).args.event.now t.refused_state-outcome.result o.0.0 o.1 t.refused_state-outcome.ensures
 
 pub returns-in-Accepted : goal.returns-in-Accepted
@@ -51,4 +51,4 @@ returns-in-Accepted c =
     let f = c.enter-reply in
     let n = c.verdict_numbers in
     answered_yes (given t) (read t).settings_in-s.result (timed t).clock_in-c.result (read t).settings_in-s.ensures (timed t).clock_in-c.ensures f.new.1.0 f.result.clock _ _ _ c.keep.new.0 (lengths t) (start t).args.event.now t.refused_state-outcome.result f.result.verdict n.result.refusal
-    c.enum_told-1.given.1 t.refused_state-outcome.ensures (ap (λ (l : Line). l.refusal) n.ensures) f.ensures c.keep.ensures
+    c.enum_told.given.1 t.refused_state-outcome.ensures (ap (λ (l : Line). l.refusal) n.ensures) f.ensures c.keep.ensures

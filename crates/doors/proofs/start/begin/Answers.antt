@@ -12,4 +12,4 @@ pub returns : goal.returns
 returns c =
     let a = c.args in
     let k = c.keep_settings in
-    begun a.s a.history-1.now _ k.new.0 k.new.1.0 k.ensures c.clear_rows.ensures
+    begun a.s a.history.now _ k.new.0 k.new.1.0 k.ensures c.clear_rows.ensures

@@ -17,12 +17,12 @@ start c = (read c)
 abbrev given : goal.Start → Lent
 given c =
     let a = c.args in
-    lent a.settings.now a.shares.now a.used.now a.clock.now (columns a.exists.now a.ready.now a.partitions.now a.priorities.now a.masks.now a.policies.now a.slices.now) a.queue.now a.history-1.now
+    lent a.settings.now a.shares.now a.used.now a.clock.now (columns a.exists.now a.ready.now a.partitions.now a.priorities.now a.masks.now a.policies.now a.slices.now) a.queue.now a.history.now
 
 limits : (c : goal.After-s-1) → Limits (read c).read_sheet-reading.result.settings
 limits c =
     let r = (read c).read_sheet-reading in
-    within (given (start c)) (start c).args.sheet.now r.result.outcome r.result.settings c.enum_told-in-Accepted-1.given.1 r.ensures.0 r.ensures.1
+    within (given (start c)) (start c).args.sheet.now r.result.outcome r.result.settings c.enum-told2.given.1 r.ensures.0 r.ensures.1
 
 pub overflow_mul-rows : goal.overflow_mul-rows
 overflow_mul-rows c =
@@ -33,22 +33,22 @@ pub returns-then-history-rows : goal.returns-then-history-rows
 returns-then-history-rows c =
     let t = c in
     let r = (read t).read_sheet-reading in
-    begun_short (given (start t)) (start t).args.sheet.now r.result.outcome r.result.settings t.enum_told-in-Accepted-1.given.1 r.ensures.0 r.ensures.1 c.if-history-rows.true
+    begun_short (given (start t)) (start t).args.sheet.now r.result.outcome r.result.settings t.enum-told2.given.1 r.ensures.0 r.ensures.1 c.if-history-rows.true
 
 pub begin-requires : goal.begin-requires
 begin-requires c =
     let t = c in
     let r = (read t).read_sheet-reading in
-    (sixteen (given (start t)) (start t).args.sheet.now r.result.outcome r.result.settings t.enum_told-in-Accepted-1.given.1 r.ensures.0 r.ensures.1, c.if-history-rows.false)
+    (sixteen (given (start t)) (start t).args.sheet.now r.result.outcome r.result.settings t.enum-told2.given.1 r.ensures.0 r.ensures.1, c.if-history-rows.false)
 
 pub returns-in-Refused : goal.returns-in-Refused
 returns-in-Refused c =
     let r = c.read_sheet-reading in
     let a = c in
-    begun_sheet (given a) a.args.sheet.now r.result.outcome c.enum_told-1.given.0.0 c.enum_told-1.given.1 r.ensures.0
+    begun_sheet (given a) a.args.sheet.now r.result.outcome c.enum_told.given.0.0 c.enum_told.given.1 r.ensures.0
 
 pub returns-else-history-rows : goal.returns-else-history-rows
 returns-else-history-rows c =
     let t = c in
     let r = (read t).read_sheet-reading in
-    begun_yes (given (start t)) (start t).args.sheet.now r.result.outcome r.result.settings t.enum_told-in-Accepted-1.given.1 r.ensures.0 r.ensures.1 c.if-history-rows.false _ c.begin.ensures
+    begun_yes (given (start t)) (start t).args.sheet.now r.result.outcome r.result.settings t.enum-told2.given.1 r.ensures.0 r.ensures.1 c.if-history-rows.false _ c.begin.ensures

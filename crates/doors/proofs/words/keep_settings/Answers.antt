@@ -6,7 +6,7 @@ use Rattle.doors.proofs.words.keep_settings.Goals as goal
 pub returns : goal.returns
 returns c =
     let s = c.args.s in
-    let byte : s.stated < 256 = c.struct_known-1.given.1.1.1.1.1.0.fits in
+    let byte : s.stated < 256 = c.struct_known.given.1.1.1.1.1.0.fits in
     let list = c.amounts.ensures in
     λ i. record {
       window = s.window;

@@ -9,7 +9,7 @@ use Rattle.scheduler.proofs.apply.advance.Goals as goal
 pub move_slot-requires : goal.move_slot-requires
 move_slot-requires c =
     let d = c.pay-paid in
-    c.requires.movable d.new.1.0 d.result.clock-1 _ d.ensures.0
+    c.requires.movable d.new.1.0 d.result.clock _ d.ensures.0
 
 pub returns : goal.returns
 returns c =

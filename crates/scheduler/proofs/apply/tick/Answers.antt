@@ -12,13 +12,13 @@ pub advance-account-requires : goal.advance-account-requires
 advance-account-requires c =
     let start = c in
     let a = start.args in
-    ticking a.settings a.used.now a.c (columns a.exists.now a.ready.now a.partitions.now a.priorities.now a.masks.now a.policies.now a.slices.now) a.queue.now a.history-1.now a.budgets.now a.tops.now a.firsts.now a.sets a.event start.requires.0 (not_resume a.event start.requires.1)
+    ticking a.settings a.used.now a.c (columns a.exists.now a.ready.now a.partitions.now a.priorities.now a.masks.now a.policies.now a.slices.now) a.queue.now a.history.now a.budgets.now a.tops.now a.firsts.now a.sets a.event start.requires.0 (not_resume a.event start.requires.1)
 
 pub turn-ended-requires : goal.turn-ended-requires
 turn-ended-requires c =
     let start = c in
     let a = start.args in
-    turning a.settings a.used.now a.c (columns a.exists.now a.ready.now a.partitions.now a.priorities.now a.masks.now a.policies.now a.slices.now) a.queue.now a.history-1.now a.budgets.now a.tops.now a.firsts.now a.sets a.event start.requires.0
+    turning a.settings a.used.now a.c (columns a.exists.now a.ready.now a.partitions.now a.priorities.now a.masks.now a.policies.now a.slices.now) a.queue.now a.history.now a.budgets.now a.tops.now a.firsts.now a.sets a.event start.requires.0
 
 pub follow_turn-competing-requires : goal.follow_turn-competing-requires
 follow_turn-competing-requires c =
@@ -26,7 +26,7 @@ follow_turn-competing-requires c =
     let a = start.args in
     let d = c.advance-account in
     let f = c.turn-ended in
-    followed_turn a.settings a.used.now a.c (columns a.exists.now a.ready.now a.partitions.now a.priorities.now a.masks.now a.policies.now a.slices.now) a.queue.now a.history-1.now a.budgets.now a.tops.now a.firsts.now a.sets a.event start.requires.0 start.requires.1 d.new.1.0 d.result.clock _ d.ensures.0 f.new.1.0 f.new.1.1.0 f.ensures.1 f.ensures.2 f.result f.ensures.0
+    followed_turn a.settings a.used.now a.c (columns a.exists.now a.ready.now a.partitions.now a.priorities.now a.masks.now a.policies.now a.slices.now) a.queue.now a.history.now a.budgets.now a.tops.now a.firsts.now a.sets a.event start.requires.0 start.requires.1 d.new.1.0 d.result.clock _ d.ensures.0 f.new.1.0 f.new.1.1.0 f.ensures.1 f.ensures.2 f.result f.ensures.0
 
 pub returns : goal.returns
 returns c =
@@ -36,6 +36,6 @@ returns c =
     let f = c.turn-ended in
     let l = c.follow_turn-competing in
     let ts = (columns a.exists.now a.ready.now a.partitions.now a.priorities.now a.masks.now a.policies.now a.slices.now) in
-    let v = saved (state_of a.settings a.used.now a.c ts a.queue.now) a.history-1.now in
+    let v = saved (state_of a.settings a.used.now a.c ts a.queue.now) a.history.now in
     subst (λ (z : Done). Applied a.settings v d.new.1.0 z.clock (with_slice_column ts f.new.1.0) f.new.1.1.0 d.new.1.1.1.1.0 a.budgets.now l.new.0 l.new.1.0 z.sets (bytes_of a.event)) (sym c.finish.ensures)
-    (tick_applied a.settings a.used.now a.c (columns a.exists.now a.ready.now a.partitions.now a.priorities.now a.masks.now a.policies.now a.slices.now) a.queue.now a.history-1.now a.budgets.now a.tops.now a.firsts.now a.sets a.event start.requires.0 start.requires.1 d.new.1.0 d.result.clock _ d.ensures.0 f.new.1.0 f.new.1.1.0 f.ensures.1 f.ensures.2 d.result.solvent l.result l.new.0 l.new.1.0 d.ensures.1 l.ensures)
+    (tick_applied a.settings a.used.now a.c (columns a.exists.now a.ready.now a.partitions.now a.priorities.now a.masks.now a.policies.now a.slices.now) a.queue.now a.history.now a.budgets.now a.tops.now a.firsts.now a.sets a.event start.requires.0 start.requires.1 d.new.1.0 d.result.clock _ d.ensures.0 f.new.1.0 f.new.1.1.0 f.ensures.1 f.ensures.2 d.result.solvent l.result l.new.0 l.new.1.0 d.ensures.1 l.ensures)

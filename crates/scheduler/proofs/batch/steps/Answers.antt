@@ -15,7 +15,7 @@ use Rattle.scheduler.proofs.Longer.{nothing_taken, nothing_written, record_part,
 use Rattle.scheduler.proofs.batch.steps.Goals as goal
 
 -- there is room for the line, and the record begins inside the events
-room : (c : goal.In-loop-i) → 12 * c.loop-i.i + 12 ≤ length c.args.out-1.now
+room : (c : goal.In-loop-i) → 12 * c.loop-i.i + 12 ≤ length c.args.out.now
 room c = omega (arith, c.loop-i-test.true, c.requires.2)
 
 begins : (c : goal.In-loop-i) → 12 * c.loop-i.i < length c.args.events.now
@@ -25,9 +25,9 @@ pub loop-i-init : goal.loop-i-init
 loop-i-init c =
     let start = c in
     let a = start.args in
-    let v = saved (state_of a.settings a.used.now a.c (columns a.exists.now a.ready.now a.partitions.now a.priorities.now a.masks.now a.policies.now a.slices.now) a.queue.now) a.history-1.now in
+    let v = saved (state_of a.settings a.used.now a.c (columns a.exists.now a.ready.now a.partitions.now a.priorities.now a.masks.now a.policies.now a.slices.now) a.queue.now) a.history.now in
     let e = a.events.now in
-    (omega arith, refl, refl, nothing_taken v e, nothing_written v e a.out-1.now, start.requires.0)
+    (omega arith, refl, refl, nothing_taken v e, nothing_written v e a.out.now, start.requires.0)
 
 pub overflow_mul-at : goal.overflow_mul-at
 overflow_mul-at c = omega (arith, room c, c.well-formed.1.1.1.1.1.1.1.1.1.1.1.1.1.1.1.1.1.1.0)
@@ -70,21 +70,21 @@ loop-i-preserved c =
     let d = c in
     let p = c.loop-i in
     let a = c.args in
-    let v = saved (state_of a.settings a.used.now a.c (columns a.exists.now a.ready.now a.partitions.now a.priorities.now a.masks.now a.policies.now a.slices.now) a.queue.now) a.history-1.now in
+    let v = saved (state_of a.settings a.used.now a.c (columns a.exists.now a.ready.now a.partitions.now a.priorities.now a.masks.now a.policies.now a.slices.now) a.queue.now) a.history.now in
     let e = a.events.now in
     let i = p.i in
     let inv = p.invariant in
     let text = text_of (line_of c.step-answer.result.verdict) in
     let f = c.step-answer in
-    let x = saved (state_of a.settings p.used p.t (columns p.exists p.ready p.partitions p.priorities p.masks p.policies p.slices) p.queue) p.history-1 in
+    let x = saved (state_of a.settings p.used p.t (columns p.exists p.ready p.partitions p.priorities p.masks p.policies p.slices) p.queue) p.history in
     let part = record_part e i c.least-end.result c.least-end.ensures in
-    let put = line_put (lines_of (run v (events_in e i))) text p.out-1 a.out-1.now _ i (12 * i + 12 - 12 * i)
+    let put = line_put (lines_of (run v (events_in e i))) text p.out a.out.now _ i (12 * i + 12 - 12 * i)
     (run_lines_length v e i) inv.4 (omega arith) c.write.ensures in (
       omega (arith, d.loop-i-test.true),
       f.auto.1.1.1.1.1.1.1.1.1.1.1.1.1.0 ∙ inv.1,
-      ap length put ∙ put_length (lines_of (run v (events_in e i))) text a.out-1.now i (run_lines_length v e i) (text_length (line_of c.step-answer.result.verdict)) (room d),
+      ap length put ∙ put_length (lines_of (run v (events_in e i))) text a.out.now i (run_lines_length v e i) (text_length (line_of c.step-answer.result.verdict)) (room d),
       f.ensures.0.after ∙ state_next v e i x _ inv.3 part,
-      put ∙ ap (λ (z : List ℕ). z ++ drop (12 * (i + 1)) a.out-1.now) (lines_next v e i x _ inv.3 part text (ap text_of f.ensures.0.line)),
+      put ∙ ap (λ (z : List ℕ). z ++ drop (12 * (i + 1)) a.out.now) (lines_next v e i x _ inv.3 part text (ap text_of f.ensures.0.line)),
       f.ensures.0.whole,
     )
 
@@ -99,10 +99,10 @@ returns c =
     let turn = c.loop-i in
     let inv = turn.invariant in
     let a = c.args in
-    let v = saved (state_of a.settings a.used.now a.c (columns a.exists.now a.ready.now a.partitions.now a.priorities.now a.masks.now a.policies.now a.slices.now) a.queue.now) a.history-1.now in
+    let v = saved (state_of a.settings a.used.now a.c (columns a.exists.now a.ready.now a.partitions.now a.priorities.now a.masks.now a.policies.now a.slices.now) a.queue.now) a.history.now in
     let e = a.events.now in
     let w : c.loop-i.i ≡ a.n = omega (arith, c.loop-i-test.false, inv.0) in (
       inv.3 ∙ ap (λ (i : ℕ). after v (events_in e i)) w,
-      inv.4 ∙ ap (λ (i : ℕ). lines_of (run v (events_in e i)) ++ drop (12 * i) a.out-1.now) w,
-      taken_arrays a.settings turn.used turn.t (columns turn.exists turn.ready turn.partitions turn.priorities turn.masks turn.policies turn.slices) turn.queue turn.history-1 a.budgets.now turn.tops turn.firsts turn.auto turn.ran inv.5,
+      inv.4 ∙ ap (λ (i : ℕ). lines_of (run v (events_in e i)) ++ drop (12 * i) a.out.now) w,
+      taken_arrays a.settings turn.used turn.t (columns turn.exists turn.ready turn.partitions turn.priorities turn.masks turn.policies turn.slices) turn.queue turn.history a.budgets.now turn.tops turn.firsts turn.auto turn.ran inv.5,
     )

@@ -12,22 +12,22 @@ returns-then-head-i c = rw (le-leb _ _ c.if-head-i.true)
 
 pub returns-in-0 : goal.returns-in-0
 unfolding letter_at
-returns-in-0 c = rw (lt-leb _ _ c.if-head-i.false, c.in_default.keys1)
+returns-in-0 c = rw (lt-leb _ _ c.if-head-i.false, c.in-0.is)
 
 pub returns-in-1 : goal.returns-in-1
 unfolding letter_at
-returns-in-1 c = rw (lt-leb _ _ c.if-head-i.false, c.in_default.keys2)
+returns-in-1 c = rw (lt-leb _ _ c.if-head-i.false, c.in-1.is)
 
 pub returns-in-2 : goal.returns-in-2
 unfolding letter_at
-returns-in-2 c = rw (lt-leb _ _ c.if-head-i.false, c.in_default.keys3)
+returns-in-2 c = rw (lt-leb _ _ c.if-head-i.false, c.in-2.is)
 
 pub returns-in-3 : goal.returns-in-3
 unfolding letter_at
-returns-in-3 c = rw (lt-leb _ _ c.if-head-i.false, c.in_default.keys4)
+returns-in-3 c = rw (lt-leb _ _ c.if-head-i.false, c.in-3.is)
 
 pub returns-in_default : goal.returns-in_default
 unfolding letter_at
 returns-in_default c =
     rw (lt-leb _ _ c.if-head-i.false)
-    (sym (get_or-eq_default (87 ∷ 67 ∷ 80 ∷ 77 ∷ []) 69 {n = c.args.i} (omega (arith, c.in_default.rest))))
+    (sym (get_or-eq_default (87 ∷ 67 ∷ 80 ∷ 77 ∷ []) 69 {n = c.args.i} (omega (arith, c.in_default-own.rest))))

@@ -32,7 +32,7 @@ returns-in_default c =
     let field : field_at bs i ≡ said_by c.read_record.result =
     field_is bs i turn.head_of-head.result turn.head_of-head.ensures c.letter_at.ensures
     c.number_at.ensures c.read_record.ensures in
-    rw (formed_not bs i c.loop-i-test.true (field ∙ ap said_by c.enum_told-1.given.1))
+    rw (formed_not bs i c.loop-i-test.true (field ∙ ap said_by c.enum_told.given.1))
     (refl, refl)
 
 pub bounds-values-i : goal.bounds-values-i
@@ -50,7 +50,7 @@ loop-i-preserved c =
     let field : field_at bs turn.i ≡ said_by c.read_record.result =
     field_is bs turn.i past.head_of-head.result past.head_of-head.ensures c.letter_at.ensures
     c.number_at.ensures c.read_record.ensures in
-    let value = value_is bs turn.i c.value-1.given.0.0 (field ∙ ap said_by c.value-1.given.1) in
+    let value = value_is bs turn.i c.value.given.0.0 (field ∙ ap said_by c.value.given.1) in
     let room : turn.i < 21 = omega (arith, count_high bs (whole_of bs start.requires)) in (
       omega arith,
       sym (all_next (λ j. accepted (field_at bs j)) turn.i) ∙ and turn.invariant.1 value.1,

@@ -17,9 +17,9 @@ loop-i-preserved c =
     let s = c.args in
     let turn = c.loop-i in (
       omega arith,
-      omega (arith, c.buffer-1.given.1, turn.invariant.1),
+      omega (arith, c.buffer.given.1, turn.invariant.1),
       rw turn.invariant.2
-          (written_more s.head (λ j. get_or s.t1 j 0) s.buffer-1.now turn.i c.letter_at.ensures
+          (written_more s.head (λ j. get_or s.t1 j 0) s.buffer.now turn.i c.letter_at.ensures
           c.number_at.ensures c.write_record.ensures),
     )
 

@@ -16,7 +16,7 @@ returns-in_default c =
       ← frame.is_framed.ensures,
       not-false frame.is_framed.result frame.if-not-is_framed.false,
       ← two.read_digits.ensures,
-      c.enum_told-1.given.1,
+      c.enum_told.given.1,
     )
 
 pub returns-then-found-number : goal.returns-then-found-number
@@ -29,7 +29,7 @@ returns-then-found-number c =
       ← frame.is_framed.ensures,
       not-false frame.is_framed.result frame.if-not-is_framed.false,
       ← two.read_digits.ensures,
-      found.found-1.given.1,
+      found.found.given.1,
       ne_eqb _ _ c.if-found-number.true,
     )
 
@@ -44,7 +44,7 @@ returns c =
       ← frame.is_framed.ensures,
       not-false frame.is_framed.result frame.if-not-is_framed.false,
       ← two.read_digits.ensures,
-      found.found-1.given.1,
+      found.found.given.1,
       eq-eqb _ _ same.if-found-number.false,
     )
     c.read_digits-2.ensures

@@ -19,5 +19,5 @@ shape_of-out c = simp length-set (omega arith)
 pub returns : goal.returns
 returns c =
     let s = c in
-    written_record s.args.letter s.args.number s.args.value s.args.out-1.now s.requires _ _
+    written_record s.args.letter s.args.number s.args.value s.args.out.now s.requires _ _
     c.write_digits.ensures c.write_digits-2.ensures

@@ -26,7 +26,7 @@ loop-i-preserved c =
     let here : turn.i < length q = omega (arith, start.requires.0.long, start.requires.0.few) in (
       omega arith,
       rw length-set turn.invariant.1,
-      again_more q turn.i turn.seen here turn.invariant.4 turn.again-1 turn.invariant.2,
+      again_more q turn.i turn.seen here turn.invariant.4 turn.again turn.invariant.2,
       rw (← or_below 6 turn.bits (get_or q turn.i 0), turn.invariant.3) (all_take (λ t. ltb t 64) q turn.i here),
       seen_more q turn.i turn.seen here turn.invariant.4 turn.invariant.1,
     )
@@ -37,5 +37,5 @@ returns c =
     let turn = c.loop-i in
     let q = start.args.queue.now in
     let e : turn.i ≡ start.args.n = omega arith in
-    subst (λ (k : ℕ). SeenOnce (take k q) (eqb turn.again-1 0 && ltb turn.bits 64) turn.seen) e
+    subst (λ (k : ℕ). SeenOnce (take k q) (eqb turn.again 0 && ltb turn.bits 64) turn.seen) e
     (marked turn.i q turn.seen _ _ turn.invariant.2 turn.invariant.3 turn.invariant.4)

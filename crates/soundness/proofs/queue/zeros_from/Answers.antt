@@ -15,10 +15,10 @@ loop-i-preserved c =
     let turn = c.loop-i in
     let q = start.args.queue.now in
     let x = get_or q turn.i 0 in
-    (omega arith, rw (← or_none turn.bits-1 x, zero_same x) (all_drop (eqb 0) q turn.i (eqb turn.bits-1 0) (omega (arith, start.requires.long)) ∙ turn.invariant.1))
+    (omega arith, rw (← or_none turn.bits x, zero_same x) (all_drop (eqb 0) q turn.i (eqb turn.bits 0) (omega (arith, start.requires.long)) ∙ turn.invariant.1))
 
 pub returns : goal.returns
 returns c =
     let start = c in
     let turn = c.loop-i in
-    sym (and-true (eqb turn.bits-1 0)) ∙ (rw (all_past (eqb 0) start.args.queue.now turn.i (omega (arith, start.requires.long))) at turn.invariant.1)
+    sym (and-true (eqb turn.bits 0)) ∙ (rw (all_past (eqb 0) start.args.queue.now turn.i (omega (arith, start.requires.long))) at turn.invariant.1)

@@ -16,7 +16,7 @@ ends : (c : goal.In-loop-p)
 ends c =
     let start = c in
     let a = start.args in
-    place_in a.history.now a.window a.count start.requires.0.held-1 c.loop-p.p (a.from + a.size) c.loop-p-test.true start.requires.0.ends
+    place_in a.history.now a.window a.count start.requires.0.held c.loop-p.p (a.from + a.size) c.loop-p-test.true start.requires.0.ends
 
 pub loop-p-init : goal.loop-p-init
 unfolding all below
@@ -63,7 +63,7 @@ add_row-row-requires c =
     let h = a.history.now in
     let fits = start.requires.0 in (
       rw (part_row h (turn.p * a.window + a.from) a.size)
-          (omega (arith, part_length h a.window a.count fits.held-1 a.from a.size fits.ends turn.p c.loop-p-test.true, fits.small)),
+          (omega (arith, part_length h a.window a.count fits.held a.from a.size fits.ends turn.p c.loop-p-test.true, fits.small)),
       turn.invariant.2.long ∙ ap (length {A = ℕ}) start.requires.1,
     )
 
@@ -83,9 +83,9 @@ loop-p-preserved c =
     let part = subst (λ (l : List ℕ). RowAdded l turn.sums r t) (part_row h (turn.p * w + a.from) a.size) call.add_row-row.ensures in (
       omega (arith, test),
       rw (turn.invariant.1, part.narrow) (all_next (small h w a.from a.size) turn.p),
-      slots_more h w a.count fits.held-1 a.from a.size fits.ends a.sums.now turn.sums t turn.p r test turn.invariant.2 part,
+      slots_more h w a.count fits.held a.from a.size fits.ends a.sums.now turn.sums t turn.p r test turn.invariant.2 part,
       added_more (held h w a.from a.size) a.rows.now turn.rows turn.p v.result
-          (omega (arith, turn.invariant.3.long, fits.rows_long, fits.held-1.few, test)) (omega (arith, v.ensures, part.total)) turn.invariant.3,
+          (omega (arith, turn.invariant.3.long, fits.rows_long, fits.held.few, test)) (omega (arith, v.ensures, part.total)) turn.invariant.3,
     )
 
 pub returns : goal.returns

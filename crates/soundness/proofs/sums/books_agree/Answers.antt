@@ -52,7 +52,7 @@ loop-from-preserved c =
     let block = c.block_Within in (
       omega (arith, size.block_size-size.ensures, size.loop-from-test.true),
       rw (turn.invariant.1, block.ensures.0) (all_below_more (fits h w a.count a.most.0) turn.from k),
-      rows_next h w a.count turn.from k turn.rows-1 block.new.1.1.1.1.1.1.0 turn.invariant.2 block.ensures.1,
+      rows_next h w a.count turn.from k turn.rows block.new.1.1.1.1.1.1.0 turn.invariant.2 block.ensures.1,
     )
 
 pub totals_agree-requires : goal.totals_agree-requires
@@ -73,6 +73,6 @@ returns c =
     let h = a.history.now in
     let w = a.window.0 in
     let e : turn.from ≡ w = omega (arith, turn.invariant.0, sums.loop-from-test.false) in
-    books_parts h w a.count a.most.0 start.requires a.totals.now turn.rows-1 a.slot.0 a.current.0 sums.slot_sum.result turn.within _
-    (omega (arith, test.if-w-at.false)) (subst (λ (k : ℕ). Added (rows_to h w k) (replicate 16 0) turn.rows-1 a.count) e turn.invariant.2)
+    books_parts h w a.count a.most.0 start.requires a.totals.now turn.rows a.slot.0 a.current.0 sums.slot_sum.result turn.within _
+    (omega (arith, test.if-w-at.false)) (subst (λ (k : ℕ). Added (rows_to h w k) (replicate 16 0) turn.rows a.count) e turn.invariant.2)
     (turn.invariant.1 ∙ ap (λ (k : ℕ). all (fits h w a.count a.most.0) (below k)) e) sums.totals_agree.ensures sums.slot_sum.ensures

@@ -33,39 +33,39 @@ inside c a t lo hi = let k : kind_of (bytes c) ≡ kind_number a = ap kind_numbe
 pub create-requires : goal.create-requires
 create-requires c =
     let at = c in
-    (inside at Create c.enum_told-1.given.1 (omega arith) (omega arith), at.requires.sizes)
+    (inside at Create c.enum_told.given.1 (omega arith) (omega arith), at.requires.sizes)
 
 pub join-requires : goal.join-requires
 join-requires c =
     let at = c in
-    let t = c.enum_told-in-Ready-1.given.1 in
+    let t = c.enum-told2.given.1 in
     (inside at Ready t (omega arith) (omega arith), at.requires.stored, at.requires.free (ap kind_number t))
 
 pub block-requires : goal.block-requires
 block-requires c =
     let at = c in
-    (inside at Block c.enum_told-in-Block-1.given.1 (omega arith) (omega arith), at.requires.stored, at.requires.few, at.requires.once)
+    (inside at Block c.enum-told3.given.1 (omega arith) (omega arith), at.requires.stored, at.requires.few, at.requires.once)
 
 pub set_priority-requires : goal.set_priority-requires
 set_priority-requires c =
     let at = c in
-    let t = c.enum_told-in-SetPriority-1.given.1 in
+    let t = c.enum-told4.given.1 in
     (inside at SetPriority t (omega arith) (omega arith), at.requires.stored, at.requires.few, at.requires.once, at.requires.waits (ap kind_number t))
 
 pub forget-requires : goal.forget-requires
 forget-requires c =
     let at = c in
-    (inside at End c.enum_told-in-End-1.given.1 (omega arith) (omega arith), at.requires.sizes)
+    (inside at End c.enum-told5.given.1 (omega arith) (omega arith), at.requires.sizes)
 
 pub returns-in-Create : goal.returns-in-Create
 returns-in-Create c =
     let at = c in
-    (acted_create (old at) (bytes at) _ (ap kind_number c.enum_told-1.given.1) c.create.ensures.0, c.create.ensures.1)
+    (acted_create (old at) (bytes at) _ (ap kind_number c.enum_told.given.1) c.create.ensures.0, c.create.ensures.1)
 
 pub returns-in-Ready : goal.returns-in-Ready
 returns-in-Ready c =
     let at = c in
-    let t = c.enum_told-in-Ready-1.given.1 in
+    let t = c.enum-told2.given.1 in
     let low = inside at Ready t (omega arith) (omega arith) in
     let e = c.join.ensures in (
       acted_ready (old at) (bytes at) _ _ c.join.result (ap kind_number t) (joined (threads at) at.requires.sizes (thread_of (bytes at)) low _ _ e.0 e.1) e.2,
@@ -75,7 +75,7 @@ returns-in-Ready c =
 pub returns-in-Block : goal.returns-in-Block
 returns-in-Block c =
     let at = c in
-    let t = c.enum_told-in-Block-1.given.1 in
+    let t = c.enum-told3.given.1 in
     let low = inside at Block t (omega arith) (omega arith) in
     let records = ap (λ (l : List ℕ). threads_in (with_ready_column (threads at) l)) c.block.ensures.0
     ∙ ready_put (threads at) at.requires.sizes (thread_of (bytes at)) low false in (
@@ -86,7 +86,7 @@ returns-in-Block c =
 pub returns-in-SetPriority : goal.returns-in-SetPriority
 returns-in-SetPriority c =
     let at = c in
-    let t = c.enum_told-in-SetPriority-1.given.1 in
+    let t = c.enum-told4.given.1 in
     let low = inside at SetPriority t (omega arith) (omega arith) in
     let e = c.set_priority.ensures in
     let line = take at.args.queued at.args.queue.now in
@@ -100,11 +100,11 @@ returns-in-SetPriority c =
 pub returns-in-End : goal.returns-in-End
 returns-in-End c =
     let at = c in
-    let t = c.enum_told-in-End-1.given.1 in
+    let t = c.enum-told5.given.1 in
     (acted_end (old at) (bytes at) _ _ c.leave.result (ap kind_number t) c.forget.ensures.0 c.leave.ensures, c.forget.ensures.1)
 
 pub returns-in-Unknown : goal.returns-in-Unknown
 returns-in-Unknown c =
     let at = c in
     let x = at.args.event.action in
-    ((λ (s : State). sym (act_none (with_tables s (old at)) (bytes at) x (own_kind x) c.in-Unknown.keys6)), at.requires.sizes)
+    ((λ (s : State). sym (act_none (with_tables s (old at)) (bytes at) x (own_kind x) c.in-Unknown-own.keys6)), at.requires.sizes)
