@@ -114,7 +114,7 @@ module _ (s : State) (h : List ℕ) (k : Settled s h) (f : Option ℕ) where
       go : (o : Option ℕ) → winner s f ≡ o
           → ((thread s (decide s f).thread).partition ≡ (decide s f).partition) × ((decide s f).partition < s.settings.count)
       go none e = absurd (n (ap (λ (d : Decided). d.thread) (decide_idle e)))
-      go (some w) e = let d : Picks w (decide s f) = decide_picks w e in (d.thread-partition ∙ sym d.partition, d.busy.won.inside)
+      go (some w) e = let d : Picks w (decide s f) = decide_picks w e in (d.thread_partition ∙ sym d.partition, d.busy.won.inside)
 
 -- once the decision's thread runs, the partition that is billed is the winner
 pub billed_winner : (f : Option ℕ) (x : Saved) → Settled x.state x.history → billed (settle f x).state ≡ winner x.state f
@@ -128,4 +128,4 @@ billed_winner f x k = go (winner x.state f) refl
     go none e = rw (decide_idle s x.history k f e)
     go (some w) e =
         let d = decide_picks s x.history k f w e in
-        rw (ne_eqb (decide s f).thread idle (omega (arith, d.inside)), d.thread-partition)
+        rw (ne_eqb (decide s f).thread idle (omega (arith, d.inside)), d.thread_partition)
