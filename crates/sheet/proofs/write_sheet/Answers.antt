@@ -9,7 +9,6 @@ use Rattle.sheet.specs.declared.Settings.{Settings}
 use Rattle.sheet.proofs.Within.{limits_of, not_refused}
 use Rattle.sheet.proofs.Sheets.{sheet_is}
 use Rattle.sheet.proofs.Answers.{refused-number, accepted-number, write-room, nothing_written, all_written}
-use borrow.Author.Rules.{rules}
 use Rattle.sheet.proofs.write_sheet.Goals as goal
 
 few : (c : Settings) → refused_settings c ≡ 0 → (c.stated ≤ 1) × (c.count ≤ 16)
@@ -17,38 +16,34 @@ few c e = let l = limits_of c (not_refused c e) in (l.stated, l.count_high)
 
 pub returns-in_default : goal.returns-in_default
 returns-in_default c =
-    let a = c.args in
     let number = c.refused_write-outcome.ensures in
     let (l, b) =
-    nothing_written a.settings a.buffer.now (refused-number c.enum-told2.given.0.0 c.enum-told2.given.1 number) in
+    nothing_written c.args.settings c.args.buffer.now (refused-number c.in_default.field-0 c.in_default.is number) in
     (number, sym l, sym b)
 
 pub values_from-requires : goal.values_from-requires
 values_from-requires c =
-    let a = c.args in
-    let (limits, room) = write-room a.settings (length a.buffer.now)
-    (accepted-number c.enum_told.given.1 c.refused_write-outcome.ensures) in
-    (few a.settings limits).0
+    let (limits, room) = write-room c.args.settings (length c.args.buffer.now)
+    (accepted-number c.in-Accepted.is c.refused_write-outcome.ensures) in
+    (few c.args.settings limits).0
 
 pub write_records-requires : goal.write_records-requires
 write_records-requires c =
-    let a = c.args in
-    let (limits, room) = write-room a.settings (length a.buffer.now)
-    (accepted-number c.enum_told.given.1 c.refused_write-outcome.ensures) in
-    let (one, most) = few a.settings limits in
+    let (limits, room) = write-room c.args.settings (length c.args.buffer.now)
+    (accepted-number c.in-Accepted.is c.refused_write-outcome.ensures) in
+    let (one, most) = few c.args.settings limits in
     (omega arith, room)
 
 pub returns : goal.returns
 returns c =
-    let a = c.args in
+    let settings = c.args.settings in
+    let buffer = c.args.buffer.now in
     let number = c.refused_write-outcome.ensures in
-    let none = accepted-number c.enum_told.given.1 number in
-    let (l, b) = all_written a.settings a.buffer.now none in
-    let (one, most) = few a.settings (write-room a.settings (length a.buffer.now) none).0 in
-    let same = sheet_is a.settings one most c.values_from.ensures in (
+    let none = accepted-number c.in-Accepted.is number in
+    let (l, b) = all_written settings buffer none in
+    let (one, most) = few settings (write-room settings (length buffer) none).0 in
+    let same = sheet_is settings one most c.values_from.ensures in (
       number,
       sym l,
-      c.write_records.ensures
-          ∙ ap (λ (x : List ℕ). x ++ drop (sheet_length a.settings) a.buffer.now) same
-          ∙ sym b,
+      c.write_records.ensures ∙ ap (λ (x : List ℕ). x ++ drop (sheet_length settings) buffer) same ∙ sym b,
     )

@@ -1,7 +1,8 @@
-use mathlib.Core.Path.{sym}
+use mathlib.Core.Path.{◌≡◌, sym}
 use mathlib.Core.List.{[], ◌∷◌}
+use Prim.Native.Nat.{◌≤◌}
 use native.Mathlib.Omega.{arith}
-use lib.ListN.{get_or-eq_default}
+use lib.ListN.{length, get_or-eq_default}
 use borrow.Author.Tests.{le-leb, lt-leb}
 use Rattle.sheet.specs.Order.{letter_at}
 use Rattle.sheet.proofs.order.letter_at.Goals as goal
@@ -29,5 +30,6 @@ returns-in-3 c = rw (lt-leb _ _ c.if-head-i.false, c.in-3.is)
 pub returns-in_default : goal.returns-in_default
 unfolding letter_at
 returns-in_default c =
+    let past : 4 ≤ c.args.i = omega arith in
     rw (lt-leb _ _ c.if-head-i.false)
-    (sym (get_or-eq_default (87 ∷ 67 ∷ 80 ∷ 77 ∷ []) 69 {n = c.args.i} (omega (arith, c.in_default-own.rest))))
+    (sym (get_or-eq_default (87 ∷ 67 ∷ 80 ∷ 77 ∷ []) 69 {n = c.args.i} past))

@@ -1,16 +1,13 @@
-use mathlib.Core.Path.{◌≡◌, refl, ◌∙◌}
+use mathlib.Core.Path.{◌≡◌}
 use mathlib.Core.List.{◌++◌}
 use Prim.Native.Nat.{◌≤◌, ◌-◌, ◌*◌}
-use native.Mathlib.Omega.{arith}
-use borrow.Author.Rules.{rules}
-use lib.ListN.{length, get_or, drop}
+use lib.ListN.{get_or, drop}
 use Rattle.sheet.specs.Order.{records_of}
-use Rattle.sheet.proofs.OrderWriting.{written_more}
 use Rattle.sheet.proofs.order.write_records.Given as goal
 
 abbrev pub invariant-loop-i : goal.invariant-loop-i
 invariant-loop-i l =
-    (l.i ≤ l.n) × (length l.buffer ≡ length l.initial.buffer) × (l.buffer ≡ records_of l.head (λ j. get_or l.values j 0) l.i ++ drop (12 * l.i) l.initial.buffer)
+    (l.i ≤ l.n) × (l.buffer ≡ records_of l.head (λ j. get_or l.values j 0) l.i ++ drop (12 * l.i) l.initial.buffer)
 
 abbrev pub decreases-loop-i : goal.decreases-loop-i
 decreases-loop-i l = l.n - l.i
