@@ -1,4 +1,5 @@
 -- What the model's action is for each kind.
+use mathlib.Core.Logic.{◌⊎◌, inl, inr}
 use mathlib.Core.Path.{◌≡◌, refl, sym, ap, ◌∙◌}
 use Prim.Native.Nat.{ℕ, ◌-◌, ◌≤◌, ◌<◌}
 use mathlib.Core.Bool.{true, false, not, cond}
@@ -45,11 +46,11 @@ module _ (s : State) (b : List ℕ) where
   unfolding act
   act_end e = rw e
 
-  pub act_none : (r : Action) → kind_number r ≡ cond (known (kind_of b)) (kind_of b) 0 → OneOf (0 ∷ 1 ∷ 7 ∷ []) (tag_of Action.the_type r) → act s b ≡ s
-  unfolding act known
-  act_none r e o =
-      let not : (m : ℕ) → known m ≡ true → T (not (has_key (0 ∷ 1 ∷ 7 ∷ []) m)) → eqb (kind_of b) m ≡ false = λ m f h. told_not r (kind_of b) m (0 ∷ 1 ∷ 7 ∷ []) e f o h in
-      rw (not 2 refl tt, not 3 refl tt, not 4 refl tt, not 5 refl tt, not 6 refl tt)
+  pub act_none : kind_of b ≡ 0 ⊎ (kind_of b ≡ 1 ⊎ kind_of b ≡ 7) → act s b ≡ s
+  unfolding act
+  act_none (inl e) = rw e
+  act_none (inr (inl e)) = rw e
+  act_none (inr (inr e)) = rw e
 
 -- ---- the same of the threads and the queue alone
 
@@ -60,23 +61,23 @@ unfolding queue_from
 settled ts ts' q k l e f s = λ i. with_tables s (record { threads = e i; queue = (f i).entries; queued = (f i).length })
 
 module _ (old : Tables) (b : List ℕ) (ts : List Thread) where
-  abbrev record_of_law : Thread
-  record_of_law = get_or old.threads (thread_of b) absent
+  abbrev record_of : Thread
+  record_of = get_or old.threads (thread_of b) absent
 
   pub acted_create : kind_of b ≡ 2 → ts ≡ set old.threads (thread_of b) (created (partition_of b) (priority_of b) (mask_of b) (policy_of b))
       → Acted old (record { threads = ts; queue = old.queue; queued = old.queued }) b
   acted_create k e s = (λ i. with_tables s (record { threads = e i; queue = old.queue; queued = old.queued })) ∙ sym (act_create (with_tables s old) b k)
 
-  pub acted_priority : (q : List ℕ) (n : ℕ) → kind_of b ≡ 5 → ts ≡ set old.threads (thread_of b) (with_priority record_of_law (priority_of b))
+  pub acted_priority : (q : List ℕ) (n : ℕ) → kind_of b ≡ 5 → ts ≡ set old.threads (thread_of b) (with_priority record_of (priority_of b))
       → queue_in q n ≡ queue_from (requeued record_of.ready record_of.priority (priority_of b) (thread_of b) (take old.queued old.queue))
       → Acted old (record { threads = ts; queue = q; queued = n }) b
   acted_priority q n k e f s = settled ts _ q n _ e f s ∙ sym (act_priority (with_tables s old) b k)
 
-  pub acted_ready : (q : List ℕ) (n : ℕ) → kind_of b ≡ 3 → ts ≡ set old.threads (thread_of b) (returned record_of_law)
+  pub acted_ready : (q : List ℕ) (n : ℕ) → kind_of b ≡ 3 → ts ≡ set old.threads (thread_of b) (returned record_of)
       → queue_in q n ≡ queue_from (take old.queued old.queue ++ (thread_of b ∷ [])) → Acted old (record { threads = ts; queue = q; queued = n }) b
   acted_ready q n k e f s = settled ts _ q n _ e f s ∙ sym (act_ready (with_tables s old) b k)
 
-  pub acted_block : (q : List ℕ) (n : ℕ) → kind_of b ≡ 4 → ts ≡ set old.threads (thread_of b) (with_ready record_of_law false)
+  pub acted_block : (q : List ℕ) (n : ℕ) → kind_of b ≡ 4 → ts ≡ set old.threads (thread_of b) (with_ready record_of false)
       → queue_in q n ≡ queue_from (leaves (take old.queued old.queue) (thread_of b)) → Acted old (record { threads = ts; queue = q; queued = n }) b
   acted_block q n k e f s = settled ts _ q n _ e f s ∙ sym (act_block (with_tables s old) b k)
 

@@ -14,58 +14,60 @@ use Rattle.event.specs.Kinds.{kind_number}
 use Rattle.event.specs.Bytes.{bytes_of}
 use Rattle.threads.specs.Entries.{queue_from}
 use Rattle.threads.proofs.ActionsLaws.{act_none, acted_create, acted_ready, acted_block, acted_priority, acted_end, place_of, own_kind, regular_ready, regular_priority, joined, regular_joined}
+use mathlib.Core.Logic.{◌⊎◌}
 use borrow.Author.Rules.{rules}
 use Rattle.threads.proofs.actions.act.Goals as goal
+use Rattle.threads.proofs.actions.act.Goals.{Start}
 
-abbrev bytes : goal.Start → List ℕ
+abbrev bytes : Start → List ℕ
 bytes c = bytes_of c.args.event
 
-abbrev threads : goal.Start → Columns
+abbrev threads : Start → Columns
 threads c = let a = c.args in columns a.exists.now a.ready.now a.partitions.now a.priorities.now a.masks.now a.policies.now a.slices.now
 
-abbrev old : goal.Start → Tables
+abbrev old : Start → Tables
 old c = tables_in (threads c) c.args.queue.now c.args.queued
 
 -- what is asked of the thread, where the action is told
-inside : (c : goal.Start) (a : Action) → c.args.event.action ≡ a → 2 ≤ kind_number a → kind_number a ≤ 6 → thread_of (bytes c) < 64
+inside : (c : Start) (a : Action) → c.args.event.action ≡ a → 2 ≤ kind_number a → kind_number a ≤ 6 → thread_of (bytes c) < 64
 inside c a t lo hi = let k : kind_of (bytes c) ≡ kind_number a = ap kind_number t in c.requires.thread_inside (rw k lo) (rw k hi)
 
 pub create-requires : goal.create-requires
 create-requires c =
-    let at = c in
-    (inside at Create c.enum_told.given.1 (omega arith) (omega arith), at.requires.sizes)
+    let at = (goal.at.create-requires c).Start in
+    (inside at Create c.in-Create.is (omega arith) (omega arith), at.requires.sizes)
 
 pub join-requires : goal.join-requires
 join-requires c =
-    let at = c in
-    let t = c.enum-told2.given.1 in
+    let at = (goal.at.join-requires c).Start in
+    let t = c.in-Ready.is in
     (inside at Ready t (omega arith) (omega arith), at.requires.stored, at.requires.free (ap kind_number t))
 
 pub block-requires : goal.block-requires
 block-requires c =
-    let at = c in
-    (inside at Block c.enum-told3.given.1 (omega arith) (omega arith), at.requires.stored, at.requires.few, at.requires.once)
+    let at = (goal.at.block-requires c).Start in
+    (inside at Block c.in-Block.is (omega arith) (omega arith), at.requires.stored, at.requires.few, at.requires.once)
 
 pub set_priority-requires : goal.set_priority-requires
 set_priority-requires c =
-    let at = c in
-    let t = c.enum-told4.given.1 in
+    let at = (goal.at.set_priority-requires c).Start in
+    let t = c.in-SetPriority.is in
     (inside at SetPriority t (omega arith) (omega arith), at.requires.stored, at.requires.few, at.requires.once, at.requires.waits (ap kind_number t))
 
 pub forget-requires : goal.forget-requires
 forget-requires c =
-    let at = c in
-    (inside at End c.enum-told5.given.1 (omega arith) (omega arith), at.requires.sizes)
+    let at = (goal.at.forget-requires c).Start in
+    (inside at End c.in-End.is (omega arith) (omega arith), at.requires.sizes)
 
 pub returns-in-Create : goal.returns-in-Create
 returns-in-Create c =
-    let at = c in
-    (acted_create (old at) (bytes at) _ (ap kind_number c.enum_told.given.1) c.create.ensures.0, c.create.ensures.1)
+    let at = (goal.at.returns-in-Create c).Start in
+    (acted_create (old at) (bytes at) _ (ap kind_number c.in-Create.is) c.create.ensures.0, c.create.ensures.1)
 
 pub returns-in-Ready : goal.returns-in-Ready
 returns-in-Ready c =
-    let at = c in
-    let t = c.enum-told2.given.1 in
+    let at = (goal.at.returns-in-Ready c).Start in
+    let t = c.in-Ready.is in
     let low = inside at Ready t (omega arith) (omega arith) in
     let e = c.join.ensures in (
       acted_ready (old at) (bytes at) _ _ c.join.result (ap kind_number t) (joined (threads at) at.requires.sizes (thread_of (bytes at)) low _ _ e.0 e.1) e.2,
@@ -74,8 +76,8 @@ returns-in-Ready c =
 
 pub returns-in-Block : goal.returns-in-Block
 returns-in-Block c =
-    let at = c in
-    let t = c.enum-told3.given.1 in
+    let at = (goal.at.returns-in-Block c).Start in
+    let t = c.in-Block.is in
     let low = inside at Block t (omega arith) (omega arith) in
     let records = ap (λ (l : List ℕ). threads_in (with_ready_column (threads at) l)) c.block.ensures.0
     ∙ ready_put (threads at) at.requires.sizes (thread_of (bytes at)) low false in (
@@ -85,8 +87,8 @@ returns-in-Block c =
 
 pub returns-in-SetPriority : goal.returns-in-SetPriority
 returns-in-SetPriority c =
-    let at = c in
-    let t = c.enum-told4.given.1 in
+    let at = (goal.at.returns-in-SetPriority c).Start in
+    let t = c.in-SetPriority.is in
     let low = inside at SetPriority t (omega arith) (omega arith) in
     let e = c.set_priority.ensures in
     let line = take at.args.queued at.args.queue.now in
@@ -99,12 +101,12 @@ returns-in-SetPriority c =
 
 pub returns-in-End : goal.returns-in-End
 returns-in-End c =
-    let at = c in
-    let t = c.enum-told5.given.1 in
+    let at = (goal.at.returns-in-End c).Start in
+    let t = c.in-End.is in
     (acted_end (old at) (bytes at) _ _ c.leave.result (ap kind_number t) c.forget.ensures.0 c.leave.ensures, c.forget.ensures.1)
 
 pub returns-in-Unknown : goal.returns-in-Unknown
 returns-in-Unknown c =
-    let at = c in
-    let x = at.args.event.action in
-    ((λ (s : State). sym (act_none (with_tables s (old at)) (bytes at) x (own_kind x) c.in-Unknown-own.keys6)), at.requires.sizes)
+    let at = (goal.at.returns-in-Unknown c).Start in
+    let none : kind_of (bytes at) ≡ 0 ⊎ (kind_of (bytes at) ≡ 1 ⊎ kind_of (bytes at) ≡ 7) = search rules in
+    ((λ (s : State). sym (act_none (with_tables s (old at)) (bytes at) none)), at.requires.sizes)

@@ -2,20 +2,13 @@ use mathlib.Core.Path.{◌≡◌, sym, ap, ◌∙◌}
 use mathlib.Core.Bool.{true}
 use Prim.Native.Nat.{ℕ, ◌+◌, ◌-◌, ◌<◌}
 use native.Mathlib.Omega.{arith}
-use borrow.Author.Rules.{rules}
 use lib.ListN.{take}
 use Rattle.lists.specs.Lists.{member}
 use Rattle.threads.proofs.EntriesLaws.{some_first, member_before}
--- where it does not stand at place i, it is one of those before, so there is such a place
-module _ (c : tie.Then1 invariant-loop decreases-loop) where
-  before : member c.before.before.before.args.t (take c.before.before.loop.i c.before.before.before.args.entries.now) ≡ true
-  before =
-      let start = c.before.before.before in
-      let turn = c.before.before.loop in
-      member_before start.args.entries.now start.args.t turn.i (omega (arith, start.requires.0, start.requires.1, turn.invariant.0)) turn.invariant.1 c.if1.true
 use Rattle.threads.proofs.queue.find_last.Goals as goal
+use Rattle.threads.proofs.queue.find_last.Goals.{Start, In-loop-i}
 
-some : (c : goal.Start) → 0 < c.args.n
+some : (c : Start) → 0 < c.args.n
 some c = some_first c.args.entries.now c.args.t c.args.n c.requires.2
 
 pub overflow_sub-i : goal.overflow_sub-i
@@ -27,12 +20,12 @@ loop-i-init c =
     let e : n - 1 + 1 ≡ n = omega (arith, some c) in
     (omega (arith, some c), ap (λ (k : ℕ). member c.args.t (take k c.args.entries.now)) e ∙ c.requires.2)
 
-pub bounds-entries-i : goal.bounds-entries-i
-bounds-entries-i c = search rules
-  more : 0 < c.loop-i.i
-  more =
-      let start = c in
-      some_first start.args.entries.now start.args.t c.loop-i.i before
+-- where it does not stand at place i, it is one of those before, so there is such a place
+before : (c : In-loop-i) → member c.args.t (take c.loop-i.i c.args.entries.now) ≡ true
+before c = member_before c.args.entries.now c.args.t c.loop-i.i (omega arith) c.loop-i.invariant.1 c.loop-i-test.true
+
+more : (c : In-loop-i) → 0 < c.loop-i.i
+more c = some_first c.args.entries.now c.args.t c.loop-i.i (before c)
 
 pub overflow_sub-i-in-loop-i : goal.overflow_sub-i-in-loop-i
 overflow_sub-i-in-loop-i c = more c
@@ -42,10 +35,9 @@ loop-i-smaller c = omega (arith, more c)
 
 pub loop-i-preserved : goal.loop-i-preserved
 loop-i-preserved c =
-    let start = c in
     let i = c.loop-i.i in
     let e : i - 1 + 1 ≡ i = omega (arith, more c) in
-    (omega (arith, c.loop-i.invariant.0), ap (λ (k : ℕ). member start.args.t (take k start.args.entries.now)) e ∙ before c)
+    (omega (arith, c.loop-i.invariant.0), ap (λ (k : ℕ). member c.args.t (take k c.args.entries.now)) e ∙ before c)
 
 pub returns : goal.returns
 returns c = (c.loop-i.invariant.0, sym c.loop-i-test.false)

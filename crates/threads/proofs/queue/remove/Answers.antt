@@ -7,17 +7,14 @@ use lib.ListN.{length, set}
 use Rattle.threads.proofs.EntriesLaws.{shifted, shift_none, shift_more, shift_end}
 use Rattle.threads.proofs.queue.remove.Goals as goal
 
-full : (c : goal.Start) → length c.args.entries.now ≡ 64
-full c = c.requires.2
-
 pub loop-i-init : goal.loop-i-init
-loop-i-init c = (omega arith, omega arith, shift_none c.args.entries.now c.args.at (omega (arith, full c)))
+loop-i-init c = (omega arith, omega arith, shift_none c.args.entries.now c.args.at (omega (arith, c.requires.2)))
 
 pub loop-i-preserved : goal.loop-i-preserved
 loop-i-preserved c =
     let start = c in
     let turn = c.loop-i in
-    (omega arith, omega arith, rw turn.invariant.2 (shift_more start.args.entries.now start.args.at turn.i (omega arith) (omega (arith, full start))))
+    (omega arith, omega arith, rw turn.invariant.2 (shift_more start.args.entries.now start.args.at turn.i (omega arith) (omega (arith, c.requires.2))))
 
 pub returns : goal.returns
 returns c =
@@ -26,4 +23,4 @@ returns c =
     let e : turn.i ≡ start.args.n - 1 = omega (arith, c.loop-i-test.false) in
     ap (λ (l : List ℕ). set l (start.args.n - 1) 0) turn.invariant.2
     ∙ ap (λ (k : ℕ). set (shifted start.args.entries.now start.args.at turn.i) k 0) (sym e)
-    ∙ shift_end start.args.entries.now start.args.at start.args.n turn.i (omega arith) (omega (arith, full start)) e
+    ∙ shift_end start.args.entries.now start.args.at start.args.n turn.i (omega arith) (omega (arith, c.requires.2)) e

@@ -1,7 +1,6 @@
 use mathlib.Core.Path.{sym, ap, ◌∙◌}
 use native.Mathlib.Omega.{arith}
 use lib.ListN.{length, get_or, length-set}
-use borrow.Author.Tests.{not-true, not-false}
 use Rattle.threads.proofs.TasksLaws.{spent_other}
 use Rattle.threads.proofs.TurnsLaws.{spent_idle, turned_idle, turned_other, turned_stays, turned_last}
 use borrow.Author.Rules.{rules}
@@ -41,7 +40,7 @@ returns-then-not-last c =
     let a = start.args in
     let on = start.requires.1.inside c.if-running-eq-IDLE.false in
     let told = c.is_spent-last in
-    let more = sym told.ensures ∙ not-true told.result c.if-not-last.true in (
+    let more = sym told.ensures ∙ c.if-not-last.true in (
       sym more,
       turned_stays a.policies.now a.slices.now a.queue.now a.queued a.running _ start.requires.1.slices on c.count_running.ensures start.requires.1.stored more,
       ap length c.count_running.ensures ∙ length-set a.slices.now a.running _ ∙ start.requires.1.slices,
@@ -61,7 +60,7 @@ returns c =
     let a = start.args in
     let on = start.requires.1.inside c.if-running-eq-IDLE.false in
     let told = c.is_spent-last in
-    let last = sym told.ensures ∙ not-false told.result c.if-not-last.false in (
+    let last = sym told.ensures ∙ c.if-not-last.false in (
       sym last,
       turned_last a.policies.now a.slices.now a.queue.now a.queued a.running _ start.requires.1.slices on c.count_running.ensures _ last c.to_tail.ensures,
       ap length c.count_running.ensures ∙ length-set a.slices.now a.running _ ∙ start.requires.1.slices,
