@@ -1,8 +1,8 @@
+use borrow.Author.Rules.{rules}
 use mathlib.Core.Path.{sym}
 use Rattle.lists.specs.Lists.{total}
 use Rattle.sheet.specs.Settings.{W, C, share, refused_settings}
 use Rattle.sheet.proofs.LimitsLaws.{too_many}
-use borrow.Author.Rules.{rules}
 use Rattle.sheet.proofs.limits.Goals as goal
 
 pub returns-then-count-gt16 : goal.returns-then-count-gt16
@@ -13,4 +13,4 @@ returns-then-count-gt16 c =
 
 pub returns : goal.returns
 unfolding refused_settings
-returns c = rw (← c.total_share-sum.ensures) c.limits_of.ensures
+returns c = search rules

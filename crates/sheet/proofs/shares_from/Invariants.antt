@@ -1,11 +1,8 @@
-use mathlib.Core.Path.{◌≡◌, refl, ◌∙◌}
-use mathlib.Core.List.{List, ◌++◌, map, append-nil}
+use mathlib.Core.Path.{◌≡◌}
+use mathlib.Core.List.{List, ◌++◌, map}
 use Prim.Native.Nat.{ℕ, ◌≤◌, ◌+◌, ◌-◌}
-use native.Mathlib.Omega.{arith}
-use borrow.Author.Rules.{rules}
 use lib.ListN.{get_or, replicate}
 use Rattle.lists.specs.Lists.{below}
-use Rattle.lists.proofs.Tables.{table_more}
 use Rattle.units.specs.declared.Percent.{Percent}
 use Rattle.sheet.proofs.shares_from.Given as goal
 

@@ -1,12 +1,12 @@
-use mathlib.Core.Path.{◌≡◌, refl, ◌∙◌}
+use borrow.Author.Rules.{rules}
+use mathlib.Core.Path.{◌≡◌, refl}
 use mathlib.Core.Bool.{cond}
-use mathlib.Core.List.{List, [], ◌∷◌, ◌++◌, map}
+use mathlib.Core.List.{List, ◌∷◌, ◌++◌, map}
 use Prim.Native.Nat.{ℕ, zero, suc, ◌≤◌, ◌<◌, ◌+◌, ◌-◌}
 use native.Mathlib.Omega.{arith}
-use borrow.Author.Rules.{rules}
 use borrow.Author.Tests.{le-leb}
-use lib.Dec.{eqb, leb}
-use lib.ListN.{get_or, set, replicate}
+use lib.Dec.{eqb}
+use lib.ListN.{set, replicate}
 use Rattle.lists.specs.Lists.{below}
 use Rattle.lists.proofs.Tables.{table_more}
 use Rattle.units.specs.declared.Percent.{Percent}
@@ -27,14 +27,6 @@ starts zero h w t p m ed shares = refl
 starts (suc zero) h w t p m ed shares = refl
 starts (suc (suc k)) h w t p m ed shares = let z : ⊥ = omega arith in absurd z
 
-ends : (st : ℕ) → st ≤ 1 → (w t p m ed : ℕ) (shares : List Percent)
-    → map (valueBy (4 + st) (stored w t p m (cond (eqb st 1) ed 0)) shares) (below (4 + st + 16))
-    ≡ map (λ i. cond (leb (4 + st) i) (percent_at shares (i - (4 + st))) (get_or (w ∷ t ∷ p ∷ m ∷ []) i ed)) (below (4 + st + 16))
-unfolding below
-ends zero h w t p m ed shares = refl
-ends (suc zero) h w t p m ed shares = refl
-ends (suc (suc k)) h w t p m ed shares = let z : ⊥ = omega arith in absurd z
-
 -- one share more
 share-more : (head : ℕ) (first values : List ℕ) (shares : List Percent) (p : ℕ) → head + p < 21
     → values ≡ map (valueBy head first shares) (below (head + p)) ++ replicate (21 - (head + p)) 0
@@ -47,28 +39,20 @@ share-more head first values shares p room e =
 
 pub loop-p-init : goal.loop-p-init
 loop-p-init c =
-    let start = c in
-    let s = start.args.settings in (
+    let s = c.args.settings in (
       omega arith,
       rw c.stated_edition.ensures
-          (starts s.stated start.requires s.window.0 s.tick.0 s.policy s.core s.edition s.shares),
+          (starts s.stated c.requires s.window.0 s.tick.0 s.policy s.core s.edition s.shares),
     )
 
 pub loop-p-preserved : goal.loop-p-preserved
 loop-p-preserved c =
     let turn = c.loop-p in
-    let start = c in
-    let s = start.args.settings in
-    let room : 4 + s.stated + turn.p < 21 = omega (arith, start.requires, c.loop-p-test.true) in
+    let s = c.args.settings in
+    let room : 4 + s.stated + turn.p < 21 = omega (arith, c.requires, c.loop-p-test.true) in
     let first = stored s.window.0 s.tick.0 s.policy s.core c.stated_edition.result in
     (omega arith, share-more (4 + s.stated) first turn.values s.shares turn.p room turn.invariant.1)
 
 pub returns : goal.returns
 unfolding values_for value_of
-returns c =
-    let turn = c.loop-p in
-    let start = c in
-    let s = start.args.settings in
-    let e : turn.p ≡ 16 = omega arith in
-    turn.invariant.1 ∙ rw (e, c.stated_edition.ensures)
-    (rw (ends s.stated start.requires s.window.0 s.tick.0 s.policy s.core s.edition s.shares))
+returns c = search rules

@@ -1,17 +1,12 @@
-use mathlib.Core.Path.{◌≡◌, refl, ◌∙◌}
+use mathlib.Core.Path.{◌≡◌}
 use mathlib.Core.Bool.{cond}
-use mathlib.Core.List.{List, [], ◌∷◌, ◌++◌, map}
-use Prim.Native.Nat.{ℕ, zero, suc, ◌≤◌, ◌<◌, ◌+◌, ◌-◌}
-use native.Mathlib.Omega.{arith}
-use borrow.Author.Rules.{rules}
-use borrow.Author.Tests.{le-leb}
-use lib.Dec.{eqb, leb}
-use lib.ListN.{get_or, set, replicate}
+use mathlib.Core.List.{List, ◌++◌, map}
+use Prim.Native.Nat.{ℕ, ◌≤◌, ◌+◌, ◌-◌}
+use lib.Dec.{leb}
+use lib.ListN.{get_or, replicate}
 use Rattle.lists.specs.Lists.{below}
-use Rattle.lists.proofs.Tables.{table_more}
 use Rattle.units.specs.declared.Percent.{Percent}
 use Rattle.sheet.specs.Limits.{percent_at}
-use Rattle.sheet.specs.Sheet.{value_of, values_for}
 use Rattle.sheet.proofs.values_from.Given as goal
 
 -- the values that are stored first, as far as they stand before the first S, then the shares

@@ -1,17 +1,11 @@
-use mathlib.Core.Path.{◌≡◌, refl, sym, ap, ◌∙◌}
+use mathlib.Core.Path.{◌≡◌}
 use mathlib.Core.Bool.{true}
 use mathlib.Core.List.{◌++◌, map}
-use Prim.Native.Nat.{◌≤◌, ◌<◌, ◌-◌}
-use native.Mathlib.Omega.{arith}
-use borrow.Author.Rules.{rules}
+use Prim.Native.Nat.{◌≤◌, ◌-◌}
 use lib.ListN.{replicate}
 use Rattle.lists.specs.Lists.{below, all}
-use Rattle.lists.proofs.Tests.{and}
-use Rattle.lists.proofs.Tables.{table_more}
-use Rattle.lists.proofs.Loops.{all_next}
-use Rattle.sheet.specs.Records.{accepted, said_by}
-use Rattle.sheet.specs.Order.{record_count, field_at, value_at, records_formed}
-use Rattle.sheet.proofs.OrderReading.{whole_of, count_high, field_is, value_is, formed_not, values_are}
+use Rattle.sheet.specs.Records.{accepted}
+use Rattle.sheet.specs.Order.{field_at, value_at}
 use Rattle.sheet.proofs.order.read_values.Given as goal
 
 abbrev pub invariant-loop-i : goal.invariant-loop-i

@@ -1,5 +1,4 @@
 use native.Mathlib.Omega.{arith}
-use borrow.Author.Rules.{rules}
 use Rattle.sheet.specs.Order.{whole_records}
 use Rattle.sheet.proofs.OrderReading.{head_is}
 use Rattle.sheet.proofs.order.whole_records.Goals as goal

@@ -1,21 +1,8 @@
-use mathlib.Core.Path.{◌≡◌, refl, sym, ◌∙◌}
-use Prim.Native.Nat.{◌≤◌, ◌<◌, ◌-◌, ◌^◌}
+use mathlib.Core.Path.{sym, ◌∙◌}
 use native.Mathlib.Omega.{arith}
-use borrow.Author.Rules.{rules}
-use lib.Dec.{lit<}
-use lib.ListN.{length, drop, get_or}
-use Rattle.sheet.specs.Records.{number_from}
-use Rattle.sheet.proofs.Digits.{digit_yes, digit_low, digit_high, number_more, number_bad, number_end, ten_more, ten_below}
+use lib.ListN.{get_or}
+use Rattle.sheet.proofs.Digits.{digit_yes, digit_low, digit_high, number_more, number_bad, number_end, ten_more}
 use Rattle.sheet.proofs.records.read_digits.Goals as goal
-
--- there is room for one more digit
-small : (c : goal.Else-byte-gt57) → c.loop-i.value < 100000
-small c =
-    let turn = c.loop-i in
-    omega (arith, ten_below turn.i (omega arith))
-
-pub loop-i-init : goal.loop-i-init
-loop-i-init c = (omega arith, lit< tt, refl)
 
 pub returns-then-byte-lt48 : goal.returns-then-byte-lt48
 returns-then-byte-lt48 c =
@@ -30,12 +17,6 @@ returns-then-byte-gt57 c =
     let l = c.args.digits.now in
     sym (turn.invariant.2 ∙ number_bad turn.value l turn.i c.loop-i-test.true
     (digit_high (get_or l turn.i 0) c.if-byte-gt57.true))
-
-pub overflow_mul-value : goal.overflow_mul-value
-overflow_mul-value c = omega (arith, small c)
-
-pub overflow_add-value : goal.overflow_add-value
-overflow_add-value c = omega (arith, small c)
 
 pub loop-i-preserved : goal.loop-i-preserved
 loop-i-preserved c =

@@ -1,11 +1,7 @@
-use mathlib.Core.Path.{◌≡◌, refl, sym, ◌∙◌}
+use mathlib.Core.Path.{◌≡◌}
 use Prim.Native.Nat.{◌≤◌, ◌<◌, ◌-◌, ◌^◌}
-use native.Mathlib.Omega.{arith}
-use borrow.Author.Rules.{rules}
-use lib.Dec.{lit<}
-use lib.ListN.{length, drop, get_or}
+use lib.ListN.{length, drop}
 use Rattle.sheet.specs.Records.{number_from}
-use Rattle.sheet.proofs.Digits.{digit_yes, digit_low, digit_high, number_more, number_bad, number_end, ten_more, ten_below}
 use Rattle.sheet.proofs.records.read_digits.Given as goal
 
 abbrev pub invariant-loop-i : goal.invariant-loop-i
