@@ -1,16 +1,12 @@
 -- Laws of the kind byte: which numbers are no kind, and which bytes a kind uses.
 use mathlib.Core.Path.{◌≡◌}
-use Prim.Native.Nat.{ℕ, suc, ◌≤◌}
+use Prim.Native.Nat.{ℕ, ◌≤◌}
 use mathlib.Core.Bool.{Bool, false}
 use native.Mathlib.Omega.{arith}
 use borrow.Author.Tests.{le-leb, lt-leb, ne_eqb}
 use Rattle.model.specs.Event.{known, names_thread, names_place, names_priority}
 use Rattle.event.specs.declared.kinds.Uses.{Uses}
 use Rattle.event.specs.Kinds.{uses_of}
-
--- past a number that it is not
-pub above : (k n : ℕ) → n ≤ k → (k ≡ n → ⊥) → suc n ≤ k
-above k n h e = omega arith
 
 pub unknown : (k : ℕ) → 8 ≤ k → known k ≡ false
 unfolding known

@@ -1,6 +1,5 @@
 use mathlib.Core.Path.{refl}
 use Rattle.event.specs.Bytes.{formed_by}
-use borrow.Author.Rules.{rules}
 use Rattle.event.proofs.formed.Goals as goal
 
 pub returns : goal.returns
