@@ -2,14 +2,11 @@
 use mathlib.Core.Logic.{◌⊎◌, inl, inr}
 use mathlib.Core.Path.{◌≡◌, refl, sym, ap, ◌∙◌}
 use Prim.Native.Nat.{ℕ, ◌-◌, ◌≤◌, ◌<◌}
-use mathlib.Core.Bool.{true, false, not, cond}
+use mathlib.Core.Bool.{true, false, cond}
 use mathlib.Core.List.{List, [], ◌∷◌, ◌++◌}
 use lib.ListN.{length, get_or, set, take, replicate, length-set}
 use native.Mathlib.Omega.{arith}
-use lib.Dec.{T, eqb}
-use denote.Enum.Declared.{tag_of}
-use mir.Val.{has_key}
-use types.Run.{OneOf}
+use lib.Dec.{eqb}
 use Rattle.model.specs.State.{absent, thread, State, Thread}
 use Rattle.model.specs.Event.{kind_of, thread_of, partition_of, priority_of, mask_of, policy_of, known}
 use Rattle.model.specs.Slices.{slice_for}
@@ -19,8 +16,6 @@ use Rattle.model.specs.Arrays.{flag, plain, Columns, with_ready_column, with_pri
 use Rattle.model.proofs.Table.{thread_at_law, plain_put, put_record, flag_low, returned_put}
 use Rattle.threads.specs.Entries.{queue_in, queue_from}
 use Rattle.threads.specs.Able.{Acted}
-use Rattle.event.specs.contracts.kinds.Action
-use Rattle.event.proofs.Told.{told_not}
 use Rattle.event.specs.declared.kinds.Action.{Action}
 use Rattle.event.specs.declared.kinds.Action.TheVariants.{Unknown, Tick, Create, Ready, Block, SetPriority, End, Resume}
 use Rattle.event.specs.Kinds.{kind_number}

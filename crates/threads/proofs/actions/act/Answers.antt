@@ -13,7 +13,7 @@ use Rattle.event.specs.declared.kinds.Action.TheVariants.{Create, Ready, Block, 
 use Rattle.event.specs.Kinds.{kind_number}
 use Rattle.event.specs.Bytes.{bytes_of}
 use Rattle.threads.specs.Entries.{queue_from}
-use Rattle.threads.proofs.ActionsLaws.{act_none, acted_create, acted_ready, acted_block, acted_priority, acted_end, place_of, own_kind, regular_ready, regular_priority, joined, regular_joined}
+use Rattle.threads.proofs.ActionsLaws.{act_none, acted_create, acted_ready, acted_block, acted_priority, acted_end, place_of, regular_ready, regular_priority, joined, regular_joined}
 use mathlib.Core.Logic.{◌⊎◌}
 use borrow.Author.Rules.{rules}
 use Rattle.threads.proofs.actions.act.Goals as goal

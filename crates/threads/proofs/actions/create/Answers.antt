@@ -3,7 +3,6 @@ use Rattle.model.proofs.Table.{thread_put}
 use Rattle.model.specs.State.{Thread}
 use Rattle.model.specs.Step.{created}
 use Rattle.threads.proofs.ActionsLaws.{regular_all}
-use borrow.Author.Rules.{rules}
 use Rattle.threads.proofs.actions.create.Goals as goal
 
 pub returns : goal.returns

@@ -2,7 +2,6 @@ use Rattle.model.specs.Arrays.{Columns, columns}
 use Rattle.model.proofs.Table.{thread_put}
 use Rattle.model.specs.State.{absent}
 use Rattle.threads.proofs.ActionsLaws.{regular_all}
-use borrow.Author.Rules.{rules}
 use Rattle.threads.proofs.actions.forget.Goals as goal
 
 pub returns : goal.returns

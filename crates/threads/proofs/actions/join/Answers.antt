@@ -1,7 +1,6 @@
 use mathlib.Core.Path.{refl, ap}
 use Prim.Native.Nat.{ℕ}
 use lib.ListN.{set}
-use borrow.Author.Rules.{rules}
 use Rattle.threads.proofs.actions.join.Goals as goal
 
 pub returns : goal.returns

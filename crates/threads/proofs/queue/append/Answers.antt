@@ -1,5 +1,4 @@
 use Rattle.threads.proofs.EntriesLaws.{appended}
-use borrow.Author.Rules.{rules}
 use Rattle.threads.proofs.queue.append.Goals as goal
 
 pub returns : goal.returns

@@ -1,11 +1,8 @@
-use mathlib.Core.Path.{◌≡◌, sym, ap, ◌∙◌}
+use mathlib.Core.Path.{◌≡◌}
 use mathlib.Core.Bool.{true}
-use Prim.Native.Nat.{ℕ, ◌+◌, ◌-◌, ◌<◌}
-use native.Mathlib.Omega.{arith}
-use borrow.Author.Rules.{rules}
+use Prim.Native.Nat.{◌+◌, ◌<◌}
 use lib.ListN.{take}
 use Rattle.lists.specs.Lists.{member}
-use Rattle.threads.proofs.EntriesLaws.{some_first, member_before}
 use Rattle.threads.proofs.queue.find_last.Given as goal
 
 -- the thread is one of those up to place i

@@ -1,13 +1,7 @@
-use mathlib.Core.Path.{◌≡◌, refl, sym, ap, ◌∙◌}
-use mathlib.Core.Bool.{Bool, ◌||◌}
-use Prim.Native.Nat.{ℕ, ◌+◌, ◌-◌, ◌≤◌, ◌<◌}
-use native.Mathlib.Omega.{arith}
-use borrow.Author.Rules.{rules}
-use lib.ListN.{length, get_or, take, drop, length-drop}
-use lib.Seq.{get_or-drop}
-use lib.Dec.{eqb}
-use Rattle.lists.specs.Lists.{any, member}
-use Rattle.lists.proofs.Loops.{any_take}
+use mathlib.Core.Path.{◌≡◌}
+use Prim.Native.Nat.{◌-◌, ◌≤◌}
+use lib.ListN.{take, drop}
+use Rattle.lists.specs.Lists.{member}
 use Rattle.threads.proofs.queue.holds.Given as goal
 
 abbrev pub invariant-loop-i : goal.invariant-loop-i

@@ -1,10 +1,6 @@
-use mathlib.Core.Path.{◌≡◌, refl, ap, ◌∙◌}
-use mathlib.Core.List.{List}
-use Prim.Native.Nat.{ℕ, ◌≤◌, ◌<◌, ◌-◌}
-use native.Mathlib.Omega.{arith}
-use borrow.Author.Rules.{rules}
-use lib.ListN.{length, set}
-use Rattle.threads.proofs.EntriesLaws.{moved, move_none, move_back, move_end}
+use mathlib.Core.Path.{◌≡◌}
+use Prim.Native.Nat.{◌≤◌}
+use Rattle.threads.proofs.EntriesLaws.{moved}
 use Rattle.threads.proofs.queue.put_first.Given as goal
 
 abbrev pub invariant-loop-to : goal.invariant-loop-to

@@ -1,10 +1,6 @@
-use mathlib.Core.Path.{◌≡◌, sym, ap, ◌∙◌}
-use mathlib.Core.List.{List}
-use Prim.Native.Nat.{ℕ, ◌≤◌, ◌-◌}
-use native.Mathlib.Omega.{arith}
-use borrow.Author.Rules.{rules}
-use lib.ListN.{length, set}
-use Rattle.threads.proofs.EntriesLaws.{shifted, shift_none, shift_more, shift_end}
+use mathlib.Core.Path.{◌≡◌}
+use Prim.Native.Nat.{◌≤◌, ◌-◌}
+use Rattle.threads.proofs.EntriesLaws.{shifted}
 use Rattle.threads.proofs.queue.remove.Given as goal
 
 abbrev pub invariant-loop-i : goal.invariant-loop-i

@@ -1,12 +1,8 @@
-use mathlib.Core.Path.{◌≡◌, refl, sym, ap, ◌∙◌}
+use mathlib.Core.Path.{◌≡◌}
 use mathlib.Core.Bool.{false}
 use Prim.Native.Nat.{◌-◌, ◌≤◌}
-use native.Mathlib.Omega.{arith}
-use borrow.Author.Rules.{rules}
-use lib.ListN.{take, drop}
-use lib.Seq.{take-add}
-use Rattle.lists.specs.Lists.{any, member}
-use Rattle.lists.proofs.All.{member_append}
+use lib.ListN.{take}
+use Rattle.lists.specs.Lists.{member}
 use Rattle.threads.proofs.queue.skip.Given as goal
 
 abbrev pub invariant-loop-i : goal.invariant-loop-i

@@ -1,11 +1,9 @@
-use mathlib.Core.Path.{◌≡◌, sym, ap, ◌∙◌}
-use mathlib.Core.Bool.{true}
+use mathlib.Core.Path.{sym, ap, ◌∙◌}
 use mathlib.Core.List.{List}
-use Prim.Native.Nat.{ℕ, ◌-◌, ◌≤◌, ◌<◌}
-use lib.ListN.{length, set, take}
+use Prim.Native.Nat.{ℕ, ◌-◌}
+use lib.ListN.{set}
 use native.Mathlib.Omega.{arith}
-use Rattle.lists.specs.Lists.{member}
-use Rattle.threads.specs.Entries.{queue_in, FirstAt}
+use Rattle.threads.specs.Entries.{queue_in}
 use Rattle.threads.proofs.EntriesLaws.{sixty_four, some_first, there, first_at, last_stays, put_last}
 use Rattle.threads.proofs.queue.to_tail.Goals as goal
 

@@ -1,5 +1,4 @@
 use Rattle.threads.proofs.TasksLaws.{counted_other, counted-last, counted-less}
-use borrow.Author.Rules.{rules}
 use Rattle.threads.proofs.tasks.counted.Goals as goal
 
 pub returns-then-t-ne-ROUND_ROBIN : goal.returns-then-t-ne-ROUND_ROBIN

@@ -3,7 +3,6 @@ use native.Mathlib.Omega.{arith}
 use lib.ListN.{length, get_or, length-set}
 use Rattle.threads.proofs.TasksLaws.{spent_other}
 use Rattle.threads.proofs.TurnsLaws.{spent_idle, turned_idle, turned_other, turned_stays, turned_last}
-use borrow.Author.Rules.{rules}
 use Rattle.threads.proofs.turns.turn.Goals as goal
 
 pub returns-then-running-eq-IDLE : goal.returns-then-running-eq-IDLE
