@@ -9,7 +9,7 @@ use Rattle.model.specs.Event.{kind_of, thread_of, priority_of}
 use Rattle.model.specs.Arrays.{Columns, columns, with_ready_column, with_priority_column, threads_in, Tables, tables_in, with_tables}
 use Rattle.model.proofs.Table.{ready_put, priority_put}
 use Rattle.event.specs.declared.kinds.Action.{Action}
-use Rattle.event.specs.declared.kinds.Action.TheVariants.{Create, Ready, Block, SetPriority, End}
+use Rattle.event.specs.declared.kinds.Action.TheVariants.{Ready, Block, SetPriority}
 use Rattle.event.specs.Kinds.{kind_number}
 use Rattle.event.specs.Bytes.{bytes_of}
 use Rattle.threads.specs.Entries.{queue_from}
@@ -31,33 +31,6 @@ old c = tables_in (threads c) c.args.queue.now c.args.queued
 -- what is asked of the thread, where the action is told
 inside : (c : Start) (a : Action) → c.args.event.action ≡ a → 2 ≤ kind_number a → kind_number a ≤ 6 → thread_of (bytes c) < 64
 inside c a t lo hi = let k : kind_of (bytes c) ≡ kind_number a = ap kind_number t in c.requires.thread_inside (rw k lo) (rw k hi)
-
-pub create-requires : goal.create-requires
-create-requires c =
-    let at = (goal.at.create-requires c).Start in
-    (inside at Create c.in-Create.is (omega arith) (omega arith), at.requires.sizes)
-
-pub join-requires : goal.join-requires
-join-requires c =
-    let at = (goal.at.join-requires c).Start in
-    let t = c.in-Ready.is in
-    (inside at Ready t (omega arith) (omega arith), at.requires.stored, at.requires.free (ap kind_number t))
-
-pub block-requires : goal.block-requires
-block-requires c =
-    let at = (goal.at.block-requires c).Start in
-    (inside at Block c.in-Block.is (omega arith) (omega arith), at.requires.stored, at.requires.few, at.requires.once)
-
-pub set_priority-requires : goal.set_priority-requires
-set_priority-requires c =
-    let at = (goal.at.set_priority-requires c).Start in
-    let t = c.in-SetPriority.is in
-    (inside at SetPriority t (omega arith) (omega arith), at.requires.stored, at.requires.few, at.requires.once, at.requires.waits (ap kind_number t))
-
-pub forget-requires : goal.forget-requires
-forget-requires c =
-    let at = (goal.at.forget-requires c).Start in
-    (inside at End c.in-End.is (omega arith) (omega arith), at.requires.sizes)
 
 pub returns-in-Create : goal.returns-in-Create
 returns-in-Create c =

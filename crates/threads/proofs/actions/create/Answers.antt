@@ -7,9 +7,8 @@ use Rattle.threads.proofs.actions.create.Goals as goal
 
 pub returns : goal.returns
 returns c =
-    let start = c in
-    let a = start.args in
+    let a = c.args in
     let x = a.event in
     let ts : Columns = columns a.exists.now a.ready.now a.partitions.now a.priorities.now a.masks.now a.policies.now a.slices.now in
     let new : Thread = created x.partition x.priority x.mask x.policy in
-    rw c.slice_for-slice.ensures (thread_put ts start.requires.1 x.thread start.requires.0 new, regular_all ts start.requires.1 x.thread start.requires.0 new)
+    rw c.slice_for-slice.ensures (thread_put ts c.requires.1 x.thread c.requires.0 new, regular_all ts c.requires.1 x.thread c.requires.0 new)

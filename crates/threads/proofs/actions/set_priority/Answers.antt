@@ -15,11 +15,6 @@ returns-then-on-ne1 c =
     let off = ne_eqb on 1 c.if-on-ne1.true in
     (refl, c.requires.1 ∙ ap queue_from (sym (requeued_unready (eqb on 1) old a.priority a.t (take a.queued a.queue.now) off)))
 
-pub to_tail-requires : goal.to_tail-requires
-to_tail-requires c =
-    let pre = c.requires in
-    (pre.1, pre.2, pre.3, pre.4 c.if-on-ne1.false)
-
 pub returns-then-old-priority : goal.returns-then-old-priority
 returns-then-old-priority c =
     let a = c.args in
@@ -28,11 +23,6 @@ returns-then-old-priority c =
     let ready = eq-eqb on 1 c.if-on-ne1.false in
     let raised = c.if-old-priority.true in
     (refl, c.to_tail.ensures ∙ ap queue_from (sym (requeued_raised (eqb on 1) old a.priority a.t (take a.queued a.queue.now) ready raised)))
-
-pub to_head-requires : goal.to_head-requires
-to_head-requires c =
-    let pre = c.requires in
-    (pre.1, pre.2, pre.3, pre.4 c.if-on-ne1.false)
 
 pub returns-then-priority-old : goal.returns-then-priority-old
 returns-then-priority-old c =

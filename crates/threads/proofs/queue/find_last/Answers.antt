@@ -1,4 +1,4 @@
-use mathlib.Core.Path.{◌≡◌, sym, ap, ◌∙◌}
+use mathlib.Core.Path.{◌≡◌, ap, ◌∙◌}
 use mathlib.Core.Bool.{true}
 use Prim.Native.Nat.{ℕ, ◌+◌, ◌-◌, ◌<◌}
 use native.Mathlib.Omega.{arith}
@@ -38,6 +38,3 @@ loop-i-preserved c =
     let i = c.loop-i.i in
     let e : i - 1 + 1 ≡ i = omega (arith, more c) in
     (omega (arith, c.loop-i.invariant.0), ap (λ (k : ℕ). member c.args.t (take k c.args.entries.now)) e ∙ before c)
-
-pub returns : goal.returns
-returns c = (c.loop-i.invariant.0, sym c.loop-i-test.false)

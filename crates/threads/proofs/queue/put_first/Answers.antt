@@ -11,15 +11,13 @@ loop-to-init c = (omega arith, move_none c.args.entries.now c.args.at (omega ari
 
 pub loop-to-preserved : goal.loop-to-preserved
 loop-to-preserved c =
-    let start = c in
     let turn = c.loop-to in
-    let a = start.args in
+    let a = c.args in
     (omega arith, rw turn.invariant.1 (move_back a.entries.now a.at (omega arith) turn.to (turn.to - 1) (omega arith) (omega arith) refl))
 
 pub returns : goal.returns
 returns c =
-    let start = c in
-    let a = start.args in
+    let a = c.args in
     let turn = c.loop-to in
     let none : turn.to ≡ 0 = omega (arith, c.loop-to-test.false) in
     ap (λ (l : List ℕ). set l 0 a.t) turn.invariant.1

@@ -11,15 +11,13 @@ loop-i-init c = (omega arith, omega arith, shift_none c.args.entries.now c.args.
 
 pub loop-i-preserved : goal.loop-i-preserved
 loop-i-preserved c =
-    let start = c in
     let turn = c.loop-i in
-    (omega arith, omega arith, rw turn.invariant.2 (shift_more start.args.entries.now start.args.at turn.i (omega arith) (omega (arith, c.requires.2))))
+    (omega arith, omega arith, rw turn.invariant.2 (shift_more c.args.entries.now c.args.at turn.i (omega arith) (omega (arith, c.requires.2))))
 
 pub returns : goal.returns
 returns c =
-    let start = c in
     let turn = c.loop-i in
-    let e : turn.i ≡ start.args.n - 1 = omega (arith, c.loop-i-test.false) in
-    ap (λ (l : List ℕ). set l (start.args.n - 1) 0) turn.invariant.2
-    ∙ ap (λ (k : ℕ). set (shifted start.args.entries.now start.args.at turn.i) k 0) (sym e)
-    ∙ shift_end start.args.entries.now start.args.at start.args.n turn.i (omega arith) (omega (arith, c.requires.2)) e
+    let e : turn.i ≡ c.args.n - 1 = omega (arith, c.loop-i-test.false) in
+    ap (λ (l : List ℕ). set l (c.args.n - 1) 0) turn.invariant.2
+    ∙ ap (λ (k : ℕ). set (shifted c.args.entries.now c.args.at turn.i) k 0) (sym e)
+    ∙ shift_end c.args.entries.now c.args.at c.args.n turn.i (omega arith) (omega (arith, c.requires.2)) e

@@ -11,18 +11,11 @@ pub loop-i-init : goal.loop-i-init
 unfolding any
 loop-i-init c = (omega arith, refl)
 
-pub returns-then-holds : goal.returns-then-holds
-returns-then-holds c = c.loop-i.invariant
-
 -- these sixteen are passed over too
 pub loop-i-preserved : goal.loop-i-preserved
 loop-i-preserved c =
-    let start = c in
     let i = c.loop-i.i in
-    let es = start.args.entries.now in
-    let t = start.args.t in
+    let es = c.args.entries.now in
+    let t = c.args.t in
     let none : member t (take 16 (drop i es)) ≡ false = sym c.holds.ensures ∙ c.if-holds.false in
     (omega arith, ap (member t) (take-add i 16 es) ∙ member_append t (take i es) (take 16 (drop i es)) ∙ rw (c.loop-i.invariant.1, none))
-
-pub returns : goal.returns
-returns c = c.loop-i.invariant

@@ -7,23 +7,12 @@ use Rattle.threads.specs.Entries.{queue_in, FirstAt}
 use Rattle.threads.proofs.EntriesLaws.{sixty_four, first_at, put_first}
 use Rattle.threads.proofs.queue.to_head.Goals as goal
 
-pub find_last-at-requires : goal.find_last-at-requires
-find_last-at-requires c =
-    let start = c in
-    (start.requires.1, sixty_four start.args.entries.now start.args.queued start.requires.0 start.requires.1, start.requires.3)
-
-pub put_first-requires : goal.put_first-requires
-put_first-requires c =
-    let start = c in
-    (omega (arith, c.find_last-at.ensures.0, start.requires.1), sixty_four start.args.entries.now start.args.queued start.requires.0 start.requires.1)
-
 pub returns : goal.returns
 returns c =
-    let start = c in
-    let a = start.args in
+    let a = c.args in
     let at = c.find_last-at in
-    let few : a.queued ≤ length a.entries.now = omega (arith, start.requires.1, sixty_four a.entries.now a.queued start.requires.0 start.requires.1) in
+    let few : a.queued ≤ length a.entries.now = omega (arith, c.requires.1, sixty_four a.entries.now a.queued c.requires.0 c.requires.1) in
     let found : FirstAt (take a.queued a.entries.now) a.t at.result =
-    first_at a.entries.now a.queued a.t at.result few start.requires.2 at.ensures.0 at.ensures.1 in
+    first_at a.entries.now a.queued a.t at.result few c.requires.2 at.ensures.0 at.ensures.1 in
     ap (λ (l : List ℕ). queue_in l a.queued) c.put_first.ensures
-    ∙ put_first a.entries.now a.queued a.t at.result start.requires.0 found at.ensures.0 start.requires.2
+    ∙ put_first a.entries.now a.queued a.t at.result c.requires.0 found at.ensures.0 c.requires.2

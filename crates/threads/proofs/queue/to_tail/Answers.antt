@@ -10,9 +10,6 @@ use Rattle.threads.proofs.queue.to_tail.Goals as goal
 pub overflow_sub-last : goal.overflow_sub-last
 overflow_sub-last c = some_first c.args.entries.now c.args.t c.args.queued c.requires.3
 
-pub bounds-entries-last : goal.bounds-entries-last
-bounds-entries-last c = omega (arith, some_first c.args.entries.now c.args.t c.args.queued c.requires.3)
-
 pub returns-then-entries-last : goal.returns-then-entries-last
 returns-then-entries-last c =
     let a = c.args in
@@ -20,19 +17,6 @@ returns-then-entries-last c =
     let full = sixty_four a.entries.now a.queued c.requires.0 c.requires.1 in
     let found = first_at a.entries.now a.queued a.t (a.queued - 1) (omega arith) c.requires.2 (omega arith) (sym c.if-entries-last.true) in
     last_stays a.entries.now a.queued a.t (a.queued - 1) c.requires.0 found (omega arith) c.requires.2
-
-pub find-at-requires : goal.find-at-requires
-find-at-requires c = (c.requires.1, sixty_four c.args.entries.now c.args.queued c.requires.0 c.requires.1)
-
--- the place that was found is one of the entries
-pub remove-requires : goal.remove-requires
-remove-requires c =
-    let a = c.args in
-    let inside = there a.entries.now a.queued a.t c.find-at.result c.requires.0 c.find-at.ensures c.requires.3 in
-    (inside, c.requires.1, sixty_four a.entries.now a.queued c.requires.0 c.requires.1)
-
-pub bounds-entries-last-2 : goal.bounds-entries-last-2
-bounds-entries-last-2 c = omega (arith, some_first c.args.entries.now c.args.t c.args.queued c.requires.3)
 
 pub returns : goal.returns
 returns c =
