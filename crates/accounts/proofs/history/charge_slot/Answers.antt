@@ -7,22 +7,11 @@ use Rattle.lists.proofs.Parts.{part_at, part_added}
 use borrow.Author.Rules.{rules}
 use Rattle.accounts.proofs.history.charge_slot.Goals as goal
 
-pub charge_row-requires : goal.charge_row-requires
-charge_row-requires c =
-    let start = c in
-    let a = start.args in
-    let w = a.window.0 in
-    let at = a.partition * w in
-    let long : length (take (at + w - at) (drop at a.history.now)) ≡ w = simp (length-take, length-drop) (omega (arith, start.requires)) in
-    let inside : a.slot.0 < at + w - at = omega (arith, start.requires) in
-    (omega (arith, start.requires), omega (arith, start.requires, part_at a.history.now at (at + w - at) a.slot.0 inside))
-
 pub returns : goal.returns
 returns c =
-    let start = c in
-    let a = start.args in
+    let a = c.args in
     let w = a.window.0 in
     let at = a.partition * w in
-    let inside : a.slot.0 < at + w - at = omega (arith, start.requires) in
+    let inside : a.slot.0 < at + w - at = omega (arith, c.requires) in
     ap (put_mid at (at + w - at) a.history.now) c.charge_row.ensures
     ∙ part_added a.history.now at (at + w - at) a.slot.0 a.amount.0 inside

@@ -7,12 +7,6 @@ use Rattle.accounts.proofs.WindowLaws.{moved}
 use borrow.Author.Rules.{rules}
 use Rattle.accounts.proofs.window.move_slot.Goals as goal
 
-pub clear_slot-set-requires : goal.clear_slot-set-requires
-clear_slot-set-requires c =
-    let start = c in
-    let a = start.args in
-    (start.requires.0, subst (λ (x : ℕ). Covered a.used.now a.history.now (W a.settings) a.settings.count x) (sym c.next_slot-next.ensures) start.requires.2)
-
 pub returns : goal.returns
 unfolding need
 returns c =
@@ -20,6 +14,6 @@ returns c =
     let d = c.clear_slot-set in
     let n = c.next_slot-next in (
       moved a.settings a.used.now a.c a.history.now n.result _ _ n.ensures d.ensures.0 d.ensures.1,
-      subst (λ (x : ℕ). Reweighed a.used.now d.new.0 a.budgets.now x a.solvent d.result)
+      subst (λ (x : ℕ). Reweighed a.used.now d.new.used a.budgets.now x a.solvent d.result)
           c.need-need.ensures d.ensures.2,
     )
