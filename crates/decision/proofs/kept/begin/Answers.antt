@@ -14,6 +14,6 @@ returns c =
     record {
       priced = price.ensures;
       led = c.build-competing.ensures;
-      weighed = subst (λ (x : ℕ). WeighedIn a.used.now price.new.0 x a.settings.count weighed.result) c.need-need.ensures
+      weighed = subst (λ (x : ℕ). WeighedIn a.used.now price.new.budgets x a.settings.count weighed.result) c.need-need.ensures
           weighed.ensures;
     }

@@ -34,7 +34,7 @@ loop-i-preserved c =
     let h : turn.i < length q = omega (arith, d.loop-i-test.true, start.requires.few, start.requires.full) in
     let e : take turn.i q ++ (get_or q turn.i 0 ∷ []) ≡ take (turn.i + 1) q = rw (add-one, take-suc q turn.i 0 h) in (
       omega arith,
-      subst (λ (l : List ℕ). KeptIn a.core a.partitions.now a.priorities.now a.masks.now l c.join-set.new.0 c.join-set.new.1.0 c.join-set.result) e
+      subst (λ (l : List ℕ). KeptIn a.core a.partitions.now a.priorities.now a.masks.now l c.join-set.new.tops c.join-set.new.firsts c.join-set.result) e
           (c.join-set.ensures (take turn.i q) turn.invariant.1),
     )
 

@@ -1,14 +1,13 @@
-use mathlib.Core.Logic.{⊎_elim}
 use mathlib.Core.Path.{◌≡◌, sym, ◌∙◌}
 use Prim.Native.Nat.{◌+◌, ◌-◌, ◌≤◌, ◌<◌}
 use native.Mathlib.Omega.{arith}
 use borrow.Author.Rules.{rules}
-use borrow.Author.Tests.{not-true, not-false}
 use lib.ListN.{length, get_or, take}
 use Rattle.decision.specs.Leads.{lead_in, numbers, runnable}
 use Rattle.decision.specs.Keeping.{Stale}
 use Rattle.decision.proofs.LeadsLaws.{stale_none, stale_step, walk_none, walk_past, walk_here, walk_stop, walk_end}
 use Rattle.decision.proofs.leads.renew.Goals as goal
+use Rattle.decision.proofs.leads.renew.Goals.{then-n-i, else-n-i+else-not-may_run+then-best-ceiling}
 
 pub loop-left-init : goal.loop-left-init
 loop-left-init c = c.requires.1
@@ -64,7 +63,7 @@ loop-i-preserved-then-not-may_run c =
     let h : turn.i < length a.queue.now = omega (arith, d.if-n-i.false, start.requires.0.few, start.requires.0.full) in (
       omega (arith, d.if-n-i.false),
       walk_past a.core a.partitions.now a.priorities.now a.masks.now a.queue.now d.lowest-p.result
-          turn.i turn.best h (sym may.ensures ∙ not-true may.result c.if-not-may_run.true) turn.invariant.1,
+          turn.i turn.best h (sym may.ensures ∙ c.if-not-may_run.true) turn.invariant.1,
     )
 
 pub bounds-priorities-at : goal.bounds-priorities-at
@@ -85,7 +84,7 @@ loop-i-preserved c =
     let h : turn.i < length a.queue.now = omega (arith, d.if-n-i.false, start.requires.0.few, start.requires.0.full) in (
       omega (arith, d.if-n-i.false),
       walk_here a.core a.partitions.now a.priorities.now a.masks.now a.queue.now d.lowest-p.result
-          turn.i turn.best c.raise-best.result h (sym may.ensures ∙ not-false may.result c.if-not-may_run.false) turn.invariant.1
+          turn.i turn.best c.raise-best.result h (sym may.ensures ∙ c.if-not-may_run.false) turn.invariant.1
           c.raise-best.ensures,
     )
 
@@ -109,28 +108,27 @@ loop-left-smaller c = c.rest-left.ensures.0
 
 pub loop-left-preserved : goal.loop-left-preserved
 loop-left-preserved c =
-    let join = c in
-    let d = join in
-    let start = d in
-    let a = start.args in
-    let turn = d.loop-i in
-    let outer = d.loop-left in
-    let low = d.lowest-p in
+    let a = c.args in
+    let turn = c.loop-i in
+    let outer = c.loop-left in
+    let low = c.lowest-p in
     let ps = a.partitions.now in
     let ns = a.priorities.now in
     let ms = a.masks.now in
     let q = a.queue.now in
-    let lead : join.if-n-i.lead ≡ lead_in (numbers ns) (runnable a.core ps ms low.result (take a.queued q)) =
-    ⊎_elim
-    (λ w. w.2 ∙ walk_end a.core ps ns ms q low.result turn.i a.queued turn.best turn.invariant.0 w.0.taken turn.invariant.1)
-    (λ w.
-    let h : turn.i < length q = omega (arith, w.0.left, start.requires.0.few, start.requires.0.full) in
-    let here = walk_here a.core ps ns ms q low.result turn.i turn.best w.7.result h (sym w.4.ensures ∙ not-false w.4.result w.5.left) turn.invariant.1 w.7.ensures in
-    w.11 ∙ walk_stop a.core ps ns ms q low.result (turn.i + 1) a.queued (get_or outer.tops low.result 0) w.7.result (omega (arith, w.0.left)) here w.9.taken
-    (outer.invariant.below low.result low.ensures.inside low.ensures.here))
-    join.if-n-i.branch in
+    let lead : c.if-n-i.lead ≡ lead_in (numbers ns) (runnable a.core ps ms low.result (take a.queued q)) =
+    elim c.if-n-i.branch [
+      | then-n-i w ↦
+          w.lead-is ∙ walk_end a.core ps ns ms q low.result turn.i a.queued turn.best turn.invariant.0 w.if-n-i.true turn.invariant.1
+      | else-n-i+else-not-may_run+then-best-ceiling w ↦
+          let h : turn.i < length q = omega (arith, w.if-n-i.false, c.requires.0.few, c.requires.0.full) in
+          let here = walk_here a.core ps ns ms q low.result turn.i turn.best w.raise-best.result h (sym w.may_run.ensures ∙ w.if-not-may_run.false)
+          turn.invariant.1 w.raise-best.ensures in
+          w.lead-is ∙ walk_stop a.core ps ns ms q low.result (turn.i + 1) a.queued (get_or outer.tops low.result 0) w.raise-best.result
+          (omega (arith, w.if-n-i.false)) here w.if-best-ceiling.true (outer.invariant.below low.result low.ensures.inside low.ensures.here)
+    ] in
     stale_step a.core ps ns ms (take a.queued q) outer.tops outer.firsts outer.set outer.left low.result c.rest-left.result c.mark-set.result
-    join.if-n-i.lead low.ensures (c.rest-left.ensures.1 low.result low.ensures) lead c.mark-set.ensures outer.invariant
+    c.if-n-i.lead low.ensures (c.rest-left.ensures.1 low.result low.ensures) lead c.mark-set.ensures outer.invariant
 
 pub returns : goal.returns
 returns c =
