@@ -3,7 +3,6 @@ use mathlib.Core.Bool.{Bool}
 use Rattle.decision.specs.Narrowing.{Narrowed, on_set}
 use Rattle.decision.specs.Orders.{asked}
 use Rattle.decision.proofs.NarrowingLaws.{narrowed_none}
-use borrow.Author.Rules.{rules}
 use Rattle.decision.proofs.by_budget.Goals as goal
 
 pub returns-then-order : goal.returns-then-order

@@ -3,7 +3,6 @@ use mathlib.Core.Bool.{Bool}
 use Rattle.decision.specs.Narrowing.{Narrowed, on_priority}
 use Rattle.decision.specs.Orders.{asked}
 use Rattle.decision.proofs.NarrowingLaws.{narrowed_none}
-use borrow.Author.Rules.{rules}
 use Rattle.decision.proofs.by_priority.Goals as goal
 
 pub returns-then-order : goal.returns-then-order

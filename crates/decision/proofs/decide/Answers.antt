@@ -4,7 +4,6 @@ use Rattle.decision.specs.Narrowing.{Narrowed}
 use Rattle.decision.specs.Orders.{order_by, level_in}
 use Rattle.decision.specs.declared.Order.{Order}
 use Rattle.decision.proofs.DecisionLaws.{decided, decided_idle}
-use borrow.Author.Rules.{rules}
 use Rattle.decision.proofs.decide.Goals as goal
 
 pub returns-then-competing-eq0 : goal.returns-then-competing-eq0

@@ -4,7 +4,6 @@ use Rattle.decision.specs.Narrowing.{on_set, on_priority}
 use Rattle.decision.specs.Orders.{asked}
 use Rattle.decision.proofs.NarrowingLaws.{set_ordered, narrowed_twice}
 use Rattle.decision.proofs.DecisionLaws.{asked_ordered}
-use borrow.Author.Rules.{rules}
 use Rattle.decision.proofs.level_of.Goals as goal
 
 pub by_priority-requires : goal.by_priority-requires

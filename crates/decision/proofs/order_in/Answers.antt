@@ -1,4 +1,3 @@
-use borrow.Author.Rules.{rules}
 use Rattle.decision.proofs.order_in.Goals as goal
 
 pub returns-in-Idle : goal.returns-in-Idle

@@ -1,5 +1,4 @@
 use Rattle.decision.proofs.NarrowingLaws.{wins_alone}
-use borrow.Author.Rules.{rules}
 use Rattle.decision.proofs.winner_of.Goals as goal
 
 pub returns-then-rest-eq0 : goal.returns-then-rest-eq0

@@ -2,7 +2,6 @@ use mathlib.Core.Path.{subst}
 use Prim.Native.Nat.{ℕ}
 use Rattle.sheet.specs.Settings.{need}
 use Rattle.accounts.specs.Solvency.{WeighedIn}
-use borrow.Author.Rules.{rules}
 use Rattle.decision.proofs.kept.begin.Goals as goal
 
 pub returns : goal.returns

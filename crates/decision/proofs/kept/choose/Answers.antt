@@ -1,6 +1,5 @@
 use Rattle.model.specs.Arrays.{state_of}
 use Rattle.decision.proofs.UpkeepLaws.{kept}
-use borrow.Author.Rules.{rules}
 use Rattle.decision.proofs.kept.choose.Goals as goal
 
 pub returns : goal.returns

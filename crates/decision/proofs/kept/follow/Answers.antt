@@ -1,5 +1,4 @@
 use Rattle.decision.proofs.Events.{ready_asks, ready_kept, block_asks, end_asks, create_kept, tick_kept, resume_kept, unknown_kept, set_inside, set_outside, set_asks}
-use borrow.Author.Rules.{rules}
 use Rattle.decision.proofs.kept.follow.Goals as goal
 
 pub join-requires : goal.join-requires

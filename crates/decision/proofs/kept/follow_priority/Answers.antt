@@ -1,4 +1,3 @@
-use borrow.Author.Rules.{rules}
 use Rattle.decision.proofs.kept.follow_priority.Goals as goal
 
 pub returns-then-ready-at-ne1 : goal.returns-then-ready-at-ne1

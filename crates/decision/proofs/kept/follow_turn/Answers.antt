@@ -1,5 +1,4 @@
 use native.Mathlib.Omega.{arith}
-use borrow.Author.Rules.{rules}
 use Rattle.decision.proofs.kept.follow_turn.Goals as goal
 
 pub returns-then-not-ended : goal.returns-then-not-ended

@@ -1,13 +1,6 @@
-use mathlib.Core.Path.{◌≡◌, subst}
-use mathlib.Core.List.{List, [], ◌∷◌, ◌++◌}
-use Prim.Native.Nat.{ℕ, ◌+◌, ◌-◌, ◌≤◌, ◌<◌}
-use native.Mathlib.Omega.{arith}
-use native.Mathlib.Numerals.{add-one}
-use borrow.Author.Rules.{rules}
-use lib.ListN.{length, get_or, take}
-use lib.Seq.{take-suc}
+use Prim.Native.Nat.{◌-◌, ◌≤◌}
+use lib.ListN.{take}
 use Rattle.decision.specs.Keeping.{KeptIn}
-use Rattle.decision.proofs.LeadsLaws.{kept_none}
 use Rattle.decision.proofs.leads.build.Given as goal
 
 abbrev pub invariant-loop-i : goal.invariant-loop-i

@@ -1,10 +1,7 @@
-use mathlib.Core.Path.{◌≡◌, sym, ◌∙◌}
-use mathlib.Core.Bool.{true}
+use mathlib.Core.Path.{sym, ◌∙◌}
 use Prim.Native.Nat.{◌+◌, ◌<◌}
 use lib.ListN.{get_or, take}
-use Rattle.model.specs.State.{allows}
 use Rattle.decision.proofs.LeadsLaws.{change_none, change_up, change_other, change_same, change_stale}
-use borrow.Author.Rules.{rules}
 use Rattle.decision.proofs.leads.change.Goals as goal
 
 pub returns-then-not-allowed : goal.returns-then-not-allowed

@@ -2,7 +2,6 @@ use mathlib.Core.Path.{sym, ◌∙◌}
 use Prim.Native.Nat.{◌+◌, ◌≤◌, ◌<◌}
 use lib.ListN.{get_or}
 use Rattle.decision.proofs.LeadsLaws.{join_none, join_new, join_same}
-use borrow.Author.Rules.{rules}
 use Rattle.decision.proofs.leads.join.Goals as goal
 
 pub returns-then-not-allowed : goal.returns-then-not-allowed

@@ -1,6 +1,5 @@
 use lib.ListN.{take}
 use Rattle.decision.proofs.LeadsLaws.{left_same, left_stale}
-use borrow.Author.Rules.{rules}
 use Rattle.decision.proofs.leads.leave.Goals as goal
 
 pub returns-then-firsts-here : goal.returns-then-firsts-here

@@ -1,4 +1,3 @@
-use borrow.Author.Rules.{rules}
 use Rattle.decision.proofs.leads.may_run.Goals as goal
 
 pub returns : goal.returns

@@ -1,7 +1,6 @@
 use mathlib.Core.Path.{sym}
 use borrow.Author.Tests.{lt-ltb, le-ltb}
 use Rattle.decision.specs.Leads.{raised_by}
-use borrow.Author.Rules.{rules}
 use Rattle.decision.proofs.leads.raise.Goals as goal
 
 pub returns-then-old-level : goal.returns-then-old-level

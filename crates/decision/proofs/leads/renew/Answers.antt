@@ -1,10 +1,8 @@
 use mathlib.Core.Path.{◌≡◌, sym, ◌∙◌}
-use Prim.Native.Nat.{◌+◌, ◌-◌, ◌≤◌, ◌<◌}
+use Prim.Native.Nat.{◌+◌, ◌<◌}
 use native.Mathlib.Omega.{arith}
-use borrow.Author.Rules.{rules}
 use lib.ListN.{length, get_or, take}
 use Rattle.decision.specs.Leads.{lead_in, numbers, runnable}
-use Rattle.decision.specs.Keeping.{Stale}
 use Rattle.decision.proofs.LeadsLaws.{stale_none, stale_step, walk_none, walk_past, walk_here, walk_stop, walk_end}
 use Rattle.decision.proofs.leads.renew.Goals as goal
 use Rattle.decision.proofs.leads.renew.Goals.{then-n-i, else-n-i+else-not-may_run+then-best-ceiling}

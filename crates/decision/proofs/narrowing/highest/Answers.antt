@@ -1,11 +1,10 @@
-use mathlib.Core.Path.{◌≡◌, refl}
+use mathlib.Core.Path.{refl}
 use Prim.Native.Nat.{ℕ}
 use native.Mathlib.Omega.{arith}
-use borrow.Author.Rules.{rules}
 use lib.ListN.{get_or}
 use Rattle.units.specs.Units.{compare_numbers}
 use Rattle.decision.specs.Narrowing.{on_priority}
-use Rattle.decision.proofs.NarrowingLaws.{tops_ordered, Passed, passed_start, passed_value, passed_all}
+use Rattle.decision.proofs.NarrowingLaws.{tops_ordered, passed_start, passed_value, passed_all}
 use Rattle.decision.proofs.narrowing.highest.Goals as goal
 
 pub overflow_cast-at : goal.overflow_cast-at

@@ -1,11 +1,8 @@
-use mathlib.Core.Path.{◌≡◌, refl}
+use mathlib.Core.Path.{◌≡◌}
 use Prim.Native.Nat.{ℕ}
-use native.Mathlib.Omega.{arith}
-use borrow.Author.Rules.{rules}
 use lib.ListN.{get_or}
-use Rattle.units.specs.Units.{compare_numbers}
 use Rattle.decision.specs.Narrowing.{on_priority}
-use Rattle.decision.proofs.NarrowingLaws.{tops_ordered, Passed, passed_start, passed_value, passed_all}
+use Rattle.decision.proofs.NarrowingLaws.{Passed}
 use Rattle.decision.proofs.narrowing.highest.Given as goal
 
 abbrev pub invariant-loop-left : goal.invariant-loop-left

@@ -1,7 +1,6 @@
 use mathlib.Core.Path.{refl, sym, ◌∙◌}
 use Rattle.units.specs.declared.Fraction.{Fraction}
 use Rattle.decision.proofs.NarrowingLaws.{moved_ahead, moved_behind, moved_level}
-use borrow.Author.Rules.{rules}
 use Rattle.decision.proofs.narrowing.lower.Goals as goal
 
 pub returns-in-Better : goal.returns-in-Better

@@ -2,7 +2,6 @@ use mathlib.Core.Path.{refl}
 use Prim.Native.Nat.{ℕ}
 use Rattle.units.proofs.Laws.{number_better, number_worse, number_equal}
 use Rattle.decision.proofs.NarrowingLaws.{moved_ahead, moved_behind, moved_level}
-use borrow.Author.Rules.{rules}
 use Rattle.decision.proofs.narrowing.raise.Goals as goal
 
 pub returns-then-k-top : goal.returns-then-k-top

@@ -1,10 +1,8 @@
-use mathlib.Core.Path.{◌≡◌, refl, sym}
-use Prim.Native.Nat.{ℕ}
-use borrow.Author.Rules.{rules}
+use mathlib.Core.Path.{refl, sym}
 use lib.ListN.{get_or}
 use Rattle.units.specs.declared.Fraction.{Fraction}
 use Rattle.decision.specs.Narrowing.{on_fraction, compared_fractions, fraction}
-use Rattle.decision.proofs.NarrowingLaws.{fractions_ordered, Passed, passed_start, passed_value, passed_all}
+use Rattle.decision.proofs.NarrowingLaws.{fractions_ordered, passed_start, passed_value, passed_all}
 use Rattle.decision.proofs.narrowing.smallest.Goals as goal
 
 pub only-kept-requires : goal.only-kept-requires

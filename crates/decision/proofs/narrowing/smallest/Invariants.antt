@@ -1,10 +1,8 @@
-use mathlib.Core.Path.{◌≡◌, refl, sym}
+use mathlib.Core.Path.{◌≡◌}
 use Prim.Native.Nat.{ℕ}
-use borrow.Author.Rules.{rules}
 use lib.ListN.{get_or}
-use Rattle.units.specs.declared.Fraction.{Fraction}
-use Rattle.decision.specs.Narrowing.{on_fraction, compared_fractions, fraction}
-use Rattle.decision.proofs.NarrowingLaws.{fractions_ordered, Passed, passed_start, passed_value, passed_all}
+use Rattle.decision.specs.Narrowing.{on_fraction, fraction}
+use Rattle.decision.proofs.NarrowingLaws.{Passed}
 use Rattle.decision.proofs.narrowing.smallest.Given as goal
 
 abbrev pub invariant-loop-left : goal.invariant-loop-left
