@@ -301,8 +301,8 @@ module _ (c : Settings) (lent : List ℕ) (es : List (List ℕ)) (v : Saved) (m 
         go : (y : Bool) → eqb (kind_of b) Event.resume ≡ y → (z : Bool) → eqb (kind_of b) Event.tick ≡ z
             → v'.state.slot.0 ≡ cond y 0 (cond z (suc (ticks_from es)) (ticks_from es)) % W c
         go true q z r = resumed_slot (eqb-true _ _ q) ∙ sym (zero-mod (W c))
-        go false q true r = first.by-tick-slot (rw r) ∙ ap (λ (n : ℕ). suc n % W c) m.slot ∙ sym (suc-mod (ticks_from es) (W c))
-        go false q false r = first.by-other-slot (rw (r, q)) ∙ m.slot
+        go false q true r = first.by_tick_slot (rw r) ∙ ap (λ (n : ℕ). suc n % W c) m.slot ∙ sym (suc-mod (ticks_from es) (W c))
+        go false q false r = first.by_other_slot (rw (r, q)) ∙ m.slot
 
     running_after : v'.state.running ≡ (decision_from c (b ∷ es)).thread
     unfolding settle
@@ -324,7 +324,7 @@ module _ (c : Settings) (lent : List ℕ) (es : List (List ℕ)) (v : Saved) (m 
 
   -- one that is refused
   matches_kept : (b : List ℕ) → accepts v b ≡ false → Matches c lent es (answer v b).after
-  matches_kept b no-entry = subst (λ (x : Saved). Matches c lent es x) (sym (answer_refused v b no-entry)) m
+  matches_kept b no_entry = subst (λ (x : Saved). Matches c lent es x) (sym (answer_refused v b no_entry)) m
 
 -- ---- a fresh start
 

@@ -82,7 +82,7 @@ module _ (s : State) (h : List ℕ) (k : Settled s h) (f : Option ℕ) (u : ℕ)
           let x : ⊥ = omega arith in
           absurd x
       go (some w) e =
-          let home : (thread s u).partition ≡ w = subst (λ (x : ℕ). (thread s x).partition ≡ w) i (decide_picks s h k f w e).thread-partition in
+          let home : (thread s u).partition ≡ w = subst (λ (x : ℕ). (thread s x).partition ≡ w) i (decide_picks s h k f w e).thread_partition in
           eq-eqb _ _ (ap (chosen s) home ∙ sym (decided_for s f w e) ∙ i)
 
 -- ---- one accepted event

@@ -45,9 +45,9 @@ module _ {A B : Type 0} (f : A → B) where
         here = p.here;
         rest = p.rest;
         whole = ap (λ (k : List A). x ∷ k) p.whole;
-        first_is = let h : map f p.first ≡ a = p.first-is in cc;
-        here_is = p.here-is;
-        rest_is = p.rest-is;
+        first_is = let h : map f p.first ≡ a = p.first_is in cc;
+        here_is = p.here_is;
+        rest_is = p.rest_is;
       }
 
   map_take : (n : ℕ) (l : List A) → map f (take n l) ≡ take n (map f l)
@@ -145,14 +145,14 @@ module _ (v : Saved) where
         closing' = y.here;
         later' = y.rest;
         whole = x.whole ∙ ap (λ (k : List Entry). x.first ++ (x.here ∷ k)) y.whole;
-        b = x.first-is;
-        o = x.here-is;
-        w = y.first-is;
-        d = y.here-is;
+        b = x.first_is;
+        o = x.here_is;
+        w = y.first_is;
+        d = y.here_is;
       }
 
       outer : At face es (faces before) (face opening) (faces rest) → Found es before opening within closing
-      outer x = inner x (at face x.rest (faces within) (face closing) (faces later) (x.rest-is ∙ map-append face within (closing ∷ later)))
+      outer x = inner x (at face x.rest (faces within) (face closing) (faces later) (x.rest_is ∙ map-append face within (closing ∷ later)))
 
   module _ (s : State) (es before : List Entry) (opening : Entry) (within : List Entry) (closing : Entry)
       (f : Found es before opening within closing) where

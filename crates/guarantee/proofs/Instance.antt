@@ -141,7 +141,7 @@ module _ (v : Saved) (b : List ℕ) (inside : v.state.slot.0 < W v.state.setting
 
   act_slot : (act charged.state b).slot.0 ≡ slot
   unfolding charge
-  act_slot = Acts.act-slot charged.state b
+  act_slot = Acts.act_slot charged.state b
 
   abbrev MovedTo : ℕ → Saved → Type 0
   MovedTo q x = HistoryMoved w (rows w) (kind_for (kind_of b)) v (settle (favoured s) x) q (cost q)
