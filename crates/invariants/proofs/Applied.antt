@@ -217,8 +217,8 @@ module _ (v : Saved) (b : List ℕ) where
         go y old u true = counted_typed (thread x.state u) (l.threads y old u)
         go y old u false = l.threads y old u
 
-    act-left : (x : Saved) → Named x.state b → Left x → Left (record { state = act x.state b; history = x.history })
-    act-left x n l = record {
+    act_left : (x : Saved) → Named x.state b → Left x → Left (record { state = act x.state b; history = x.history })
+    act_left x n l = record {
       settled = k;
       lengths = act_lengths x.state b x.history l.lengths n k;
       settings = act_settings x.state b ∙ l.settings;
@@ -253,7 +253,7 @@ module _ (v : Saved) (b : List ℕ) where
     apply_left = apply_cases Left
         (λ q. resume_left)
         (λ q. ticked_left (charge_left (omega arith)))
-        (λ n m. act-left (charge v (stamp_of b)) named (charge_left n))
+        (λ n m. act_left (charge v (stamp_of b)) named (charge_left n))
 
     -- 3. the new decision
     pub settle_left : (f : Option ℕ) (x : Saved) → Left x → Left (settle f x)

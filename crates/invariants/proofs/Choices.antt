@@ -45,7 +45,7 @@ chooses s h e f t a =
     let (w, q) = busy s h k f (thread s t).partition i c in
     (decide_picks s h k f w q).busy
 
-module _ (test : ℕ → Bool) (t u : ℕ) (t-holds : test t ≡ true) (u-holds : test u ≡ true) (l m : List ℕ) where
+module _ (test : ℕ → Bool) (t u : ℕ) (t_holds : test t ≡ true) (u_holds : test u ≡ true) (l m : List ℕ) where
   Free : List ℕ → Type 0
   Free x = (v : ℕ) → member v x ≡ true → test v ≡ false
 
@@ -63,8 +63,8 @@ module _ (test : ℕ → Bool) (t u : ℕ) (t-holds : test t ≡ true) (u-holds 
 
   first_one : (x : List ℕ) → Free x → (y : List ℕ) → Free y → x ++ (t ∷ l) ≡ y ++ (u ∷ m) → t ≡ u
   first_one [] f [] g e = cc
-  first_one [] f (y ∷ ys) g e = let w : t ≡ y = cc in clash t-holds (rw w (free_head y ys g))
-  first_one (x ∷ xs) f [] g e = let w : u ≡ x = cc in clash u-holds (rw w (free_head x xs f))
+  first_one [] f (y ∷ ys) g e = let w : t ≡ y = cc in clash t_holds (rw w (free_head y ys g))
+  first_one (x ∷ xs) f [] g e = let w : u ≡ x = cc in clash u_holds (rw w (free_head x xs f))
   first_one (x ∷ xs) f (y ∷ ys) g e = let w : xs ++ (t ∷ l) ≡ ys ++ (u ∷ m) = cc in first_one xs (free_tail x xs f) ys (free_tail y ys g) w
 
 -- two choices have the same priority, so they are the first of the same test

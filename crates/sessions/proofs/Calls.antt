@@ -46,9 +46,9 @@ pub answer_yes : (x : Lent) (b : List ℕ) → refused_in x ≡ 0 → answer_to 
 unfolding answer_to
 answer_yes x b z = rw z
 
-pub answer-no : (x : Lent) (b : List ℕ) → refused_in x ≢ 0 → answer_to x b ≡ record { refusal = refused_in x; decision = nothing; after = saved_in x }
+pub answer_no : (x : Lent) (b : List ℕ) → refused_in x ≢ 0 → answer_to x b ≡ record { refusal = refused_in x; decision = nothing; after = saved_in x }
 unfolding answer_to
-answer-no x b n = rw (ne_eqb (refused_in x) 0 n)
+answer_no x b n = rw (ne_eqb (refused_in x) 0 n)
 
 left_is : (x : Lent) (c : Call) → Answered x c.bytes c.line c.left → refused_in x ≡ 0 → saved_in c.left ≡ (answer (saved_in x) c.bytes).after
 left_is x c q z = q.after ∙ ap (λ (a : Answer). a.after) (answer_yes x c.bytes z)
@@ -92,8 +92,8 @@ calls_are_run x calls q z = (
 pub refused_stays : RefusedStays
 refused_stays x [] q n = tt
 refused_stays x (c ∷ cs) (q, qs) n =
-    let refusal : c.line.refusal ≡ refused_in x = ap (λ (l : Line). l.refusal) (q.line ∙ ap answer_line (answer-no x c.bytes n)) in
-    let same : c.left ≡ x = q.still (λ z. n (sym (ap (λ (a : Answer). a.refusal) (answer-no x c.bytes n)) ∙ z)) in
+    let refusal : c.line.refusal ≡ refused_in x = ap (λ (l : Line). l.refusal) (q.line ∙ ap answer_line (answer_no x c.bytes n)) in
+    let same : c.left ≡ x = q.still (λ z. n (sym (ap (λ (a : Answer). a.refusal) (answer_no x c.bytes n)) ∙ z)) in
     (refusal, same, refused_stays x cs (subst (λ (y : Lent). Calls y cs) same qs) n)
 
 -- the last of several calls
@@ -103,21 +103,21 @@ last_call x (d ∷ calls) c q = last_call d.left calls c q.1
 
 -- what an accepted call was given is not refused
 pub taken_call : (x : Lent) (c : Call) → Answered x c.bytes c.line c.left → accepts c ≡ true → refused_in x ≡ 0
-taken_call x c q yes-line = go (ℕ_discrete (refused_in x) 0)
+taken_call x c q yes_line = go (ℕ_discrete (refused_in x) 0)
   where
     go : Dec (refused_in x ≡ 0) → refused_in x ≡ 0
     go (yes z) = z
     go (no n) =
-        let refusal : c.line.refusal ≡ refused_in x = ap (λ (l : Line). l.refusal) (q.line ∙ ap answer_line (answer-no x c.bytes n)) in
-        absurd (n (sym refusal ∙ eqb-true _ _ yes-line))
+        let refusal : c.line.refusal ≡ refused_in x = ap (λ (l : Line). l.refusal) (q.line ∙ ap answer_line (answer_no x c.bytes n)) in
+        absurd (n (sym refusal ∙ eqb-true _ _ yes_line))
 
 -- so an accepted call is the model's accepted event
-module _ (x : Lent) (c : Call) (q : Answered x c.bytes c.line c.left) (yes-line : accepts c ≡ true) where
+module _ (x : Lent) (c : Call) (q : Answered x c.bytes c.line c.left) (yes_line : accepts c ≡ true) where
   pub call_is : (entry_of c).answer ≡ answer (saved_in x) c.bytes
-  call_is = ap (λ (e : Entry). e.answer) (entry_is x c q (taken_call x c q yes-line))
+  call_is = ap (λ (e : Entry). e.answer) (entry_is x c q (taken_call x c q yes_line))
 
   pub call_accepted : (answer (saved_in x) c.bytes).refusal ≡ 0
-  call_accepted = sym (ap (λ (w : Answer). w.refusal) call_is) ∙ eqb-true _ _ yes-line
+  call_accepted = sym (ap (λ (w : Answer). w.refusal) call_is) ∙ eqb-true _ _ yes_line
 
 -- ---- what is lent, as the model's theorems take it
 

@@ -24,7 +24,7 @@ use Rattle.sessions.specs.Calls.{Call, chosen_by, entry_of, accepts}
 use Rattle.sessions.specs.Decisions.{Decides, DoorDecides}
 use Rattle.sessions.proofs.Calls.{taken_call, call_is, call_accepted, lengths, not_refused}
 
-module _ (x : Lent) (c : Call) (q : Answered x c.bytes c.line c.left) (yes-line : accepts c ≡ true) where
+module _ (x : Lent) (c : Call) (q : Answered x c.bytes c.line c.left) (yes_line : accepts c ≡ true) where
   abbrev v : Saved
   v = saved_in x
 
@@ -35,13 +35,13 @@ module _ (x : Lent) (c : Call) (q : Answered x c.bytes c.line c.left) (yes-line 
   f = favoured (state_in x)
 
   taken : refused_in c.left ≡ 0
-  taken = q.taken (taken_call x c q yes-line)
+  taken = q.taken (taken_call x c q yes_line)
 
   accepted : (answer v c.bytes).refusal ≡ 0
-  accepted = call_accepted x c q yes-line
+  accepted = call_accepted x c q yes_line
 
   is : (entry_of c).answer ≡ accepted_answer v c.bytes
-  is = call_is x c q yes-line ∙ answer_accepted v c.bytes (accepts_it v c.bytes accepted)
+  is = call_is x c q yes_line ∙ answer_accepted v c.bytes (accepts_it v c.bytes accepted)
 
   decision_is : chosen_by c.line ≡ decide s f
   decision_is =
@@ -50,14 +50,14 @@ module _ (x : Lent) (c : Call) (q : Answered x c.bytes c.line c.left) (yes-line 
       ∙ ap (λ (a : Answer). decide a.after.state f) (sym is)
 
   again : decide s (favoured s) ≡ chosen_by c.line
-  again = (subst Repeated (sym (call_is x c q yes-line)) (repeats v (lengths x q.sizes) c.bytes accepted)).decision
+  again = (subst Repeated (sym (call_is x c q yes_line)) (repeats v (lengths x q.sizes) c.bytes accepted)).decision
 
   repeated : Doors.decision c.left ≡ c.line
   unfolding Doors.decision
   repeated =
       rw taken (ap decision_line again
       ∙ ap (λ (n : ℕ). record { refusal = n; mode = c.line.mode; partition = c.line.partition; thread = c.line.thread })
-      (sym (eqb-true c.line.refusal 0 yes-line)))
+      (sym (eqb-true c.line.refusal 0 yes_line)))
 
   fine : sound s c.left.history ≡ true
   fine = of_sound s c.left.history (fit_of s c.left.history (not_refused c.left taken)).sound

@@ -32,7 +32,7 @@ use Rattle.scheduler.proofs.Longer.{text_length}
 use Rattle.doors.specs.Doors.{Sizes}
 use Rattle.sessions.specs.Calls.{Call, Calls, call_lines}
 use Rattle.sessions.specs.Uses.{line_in, lines_in}
-use Rattle.sessions.proofs.Calls.{answer_yes, answer-no, lengths}
+use Rattle.sessions.proofs.Calls.{answer_yes, answer_no, lengths}
 
 record Short (l : Line) : Type 0 where
   pub refusal : l.refusal < 100
@@ -135,7 +135,7 @@ answer_short x b sizes = go (ℕ_discrete (refused_in x) 0)
 
     go : Dec (refused_in x ≡ 0) → Short (answer_line (answer_to x b))
     go (yes z) = rw (answer_yes x b z) (inner (ℕ_discrete n 0))
-    go (no k) = rw (answer-no x b k) (refusal_short (refused_in x) (lent_most x))
+    go (no k) = rw (answer_no x b k) (refusal_short (refused_in x) (lent_most x))
 
 -- ---- so the lines of calls are read back from their text
 

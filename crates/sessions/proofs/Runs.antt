@@ -31,7 +31,7 @@ use Rattle.model.proofs.Table.{flag_on}
 use Rattle.invariants.proofs.Answered.{Good, answer_refused, refusal_tells, good_answer}
 use Rattle.doors.specs.Doors.{Sizes, Answered, Ran}
 use Rattle.sessions.specs.Calls.{Call, Calls, left_by, given_to, as_entries, call_lines, taken_of, AsCalls, RunIsCalls}
-use Rattle.sessions.proofs.Calls.{answer_yes, answer-no, lengths, not_refused, calls_are_run}
+use Rattle.sessions.proofs.Calls.{answer_yes, answer_no, lengths, not_refused, calls_are_run}
 
 -- ---- every state can be lent: arrays that stand for it
 
@@ -123,7 +123,7 @@ answer_there x s b = go (ℕ_discrete (refused_in x) 0)
     go : Dec (refused_in x ≡ 0) → (y : Lent) × Answered x b (answer_line (answer_to x b)) y × Sizes y
     go (no n) = (
       x,
-      record { line = refl; after = sym (ap (λ (a : Answer). a.after) (answer-no x b n)); taken = λ z. z; still = λ _. refl; sizes = s },
+      record { line = refl; after = sym (ap (λ (a : Answer). a.after) (answer_no x b n)); taken = λ z. z; still = λ _. refl; sizes = s },
       s,
     )
     go (yes z) = accepts (ℕ_discrete (answer_to x b).refusal 0)

@@ -11,9 +11,9 @@ use Rattle.sessions.specs.Switches.{DoorSwitches}
 use Rattle.sessions.proofs.Calls.{last_call, call_is, call_accepted, lengths}
 
 pub door_switches : DoorSwitches
-door_switches x calls c q yes-line p r from =
+door_switches x calls c q yes_line p r from =
     let y : Lent = left_by x calls in
     let a = last_call x calls c q in
     subst (λ (w : Answer). billed w.after.state ≡ some r → p ≢ r → (w.decision.partition ≡ r) × GivesWay w.after.state p r)
-    (sym (call_is y c a yes-line))
-    (switches (saved_in y) (lengths y a.sizes) c.bytes (call_accepted y c a yes-line) p r from)
+    (sym (call_is y c a yes_line))
+    (switches (saved_in y) (lengths y a.sizes) c.bytes (call_accepted y c a yes_line) p r from)

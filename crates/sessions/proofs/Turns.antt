@@ -19,11 +19,11 @@ use Rattle.sessions.proofs.Calls.{last_call, taken_call, call_is, call_accepted,
 
 pub door_slice_ends : DoorSliceEnds
 unfolding after
-door_slice_ends x calls c q k yes-line t u on over m =
+door_slice_ends x calls c q k yes_line t u on over m =
     let y : Lent = left_by x calls in
     let a = last_call x calls c q in
-    subst (λ (w : Answer). (chosen w.after.state (thread (state_in y) t).partition ≢ t) × (w.decision.thread ≢ t)) (sym (call_is y c a yes-line))
-    (slice_ends (saved_in y) (lengths y a.sizes) (not_refused y (taken_call y c a yes-line)) [] c.bytes k (call_accepted y c a yes-line) t u on over m)
+    subst (λ (w : Answer). (chosen w.after.state (thread (state_in y) t).partition ≢ t) × (w.decision.thread ≢ t)) (sym (call_is y c a yes_line))
+    (slice_ends (saved_in y) (lengths y a.sizes) (not_refused y (taken_call y c a yes_line)) [] c.bytes k (call_accepted y c a yes_line) t u on over m)
 
 -- no call, no tick
 none : (n : ℕ) (s : State) (t u : ℕ) → FoundAtMost n s t u []
