@@ -72,7 +72,7 @@ module _ (x : Lent) (c : Call) (q : Answered x c.bytes c.line c.left) (yes_line 
         decision = decision_is;
         repeated = repeated;
         idles = λ n. decision_is ∙ i.when n;
-        idle_mode_law = λ e. i.by_mode (sym mode ∙ e);
+        idle_mode = λ e. i.by_mode (sym mode ∙ e);
         idle_thread = λ e. i.by_thread (sym thread ∙ e);
         chooses = λ t a. subst (Busy s f) (sym decision_is) (chooses s c.left.history fine f t a);
         budget_first = λ p b k h. rw partition (budget_first s c.left.history fine f p b k h).1;

@@ -21,7 +21,7 @@ pub record Decides (x : Lent) (c : Call) : Type 0 where
   pub repeated : Doors.decision c.left ≡ c.line
   -- "It idles exactly when no ready thread may run on this core": mode 0, partition 0, thread 255; mode 0 alone, and thread 255 alone, say so
   pub idles : NoneAllowed (state_in c.left) → chosen_by c.line ≡ idle_decision
-  pub idle_mode_law : c.line.mode ≡ idle_mode → NoneAllowed (state_in c.left)
+  pub idle_mode : c.line.mode ≡ idle_mode → NoneAllowed (state_in c.left)
   pub idle_thread : c.line.thread ≡ idle → NoneAllowed (state_in c.left)
   -- otherwise it is the winner and its thread
   pub chooses : (t : ℕ) → Allowed (state_in c.left) t → Busy (state_in c.left) (favoured (state_in x)) (chosen_by c.line)

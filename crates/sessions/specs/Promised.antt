@@ -27,7 +27,7 @@ pub record Promised : Type 1 where
   pub budgets_whole : Units.BudgetsAreWhole
   pub budgets_fit : Units.BudgetsFit
   pub remaining : Units.RemainingIsExact
-  pub has_budget_law : Units.HasBudget
+  pub has_budget : Units.HasBudget
   pub needs_whole : Units.NeedsAreWhole
   pub shares : Settings.SharesFit
   pub read_written : Sheet.ReadIsWritten
