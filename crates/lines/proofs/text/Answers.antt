@@ -1,7 +1,6 @@
 use mathlib.Core.Path.{refl}
 use Rattle.sheet.specs.Records.{digits_of}
 use Rattle.model.specs.Answers.{text_of}
-use borrow.Author.Rules.{rules}
 use Rattle.lines.proofs.text.Goals as goal
 
 pub returns : goal.returns

@@ -1,8 +1,0 @@
-use borrow.Author.Rules.{rules}
-use Rattle.lines.proofs.write.Goals as goal
-
-pub returns-in-Decided : goal.returns-in-Decided
-returns-in-Decided c = rw (c.verdict.given.1, ← c.mode_number.ensures) c.put.ensures
-
-pub returns-in-Refused : goal.returns-in-Refused
-returns-in-Refused c = rw (c.verdict2.given.1, ← c.number.ensures) c.put-in-Refused.ensures
