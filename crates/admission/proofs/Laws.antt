@@ -1,4 +1,5 @@
 -- The tests by kind are the model's.
+use mathlib.Core.Logic.{◌⊎◌, inl, inr}
 use mathlib.Core.Path.{◌≡◌, refl, sym, ap, ◌∙◌}
 use Prim.Native.Nat.{ℕ, ◌+◌, ◌*◌, ◌≤◌, ◌<◌}
 use mathlib.Core.Bool.{Bool, true, false, not, cond, or-false, ◌&&◌, ◌||◌}
@@ -8,9 +9,6 @@ use native.Mathlib.Decide.{dec_le}
 use lib.Dec.{T, leb, ltb, eqb}
 use lib.ListN.{get_or}
 use borrow.Author.Tests.{le-leb, lt-leb, eqb-false}
-use denote.Enum.Declared.{tag_of}
-use mir.Val.{has_key}
-use types.Run.{OneOf}
 use Rattle.units.specs.Units.{elapsed_of}
 use Rattle.sheet.specs.Settings.{C}
 use Rattle.sheet.specs.declared.Settings.{Settings}
@@ -20,34 +18,23 @@ use Rattle.model.specs.Event.{stamp_of, known, names_thread, well_formed, too_lo
 use Rattle.model.specs.Arrays.{Columns, with_flag_columns, state_of}
 use Rattle.model.specs.declared.Clock.{Clock}
 use Rattle.model.proofs.Table.{thread_at_law}
-use Rattle.event.specs.contracts.kinds.Action
-use Rattle.event.proofs.Told.{told_not}
 use Rattle.event.specs.declared.kinds.Action.{Action}
+use Rattle.event.specs.declared.kinds.Action.TheVariants.{Unknown, Tick, Create, Ready, Block, SetPriority, End, Resume}
 use Rattle.event.specs.Kinds.{kind_number}
 use Rattle.event.specs.Bytes.{bytes_of}
 use Rattle.event.specs.declared.Event.{Event}
-use Rattle.threads.proofs.ActionsLaws.{own_kind}
 use Rattle.admission.specs.Tests.{late, create_refused, ready_refused, block_refused, other_refused}
 
--- an action that is one of some others is not of kind m
-pub other_kind : (a : Action) (m : ℕ) (ks : List ℕ) → known m ≡ true → OneOf ks (tag_of Action.the_type a) → T (not (has_key ks m)) → eqb (kind_number a) m ≡ false
-other_kind a m ks f o h = told_not a (kind_number a) m ks (own_kind a) f o h
-
--- a kind between 2 and 6 is one of five
-quiet : (k : ℕ) → eqb k 2 ≡ false → eqb k 3 ≡ false → eqb k 4 ≡ false → eqb k 5 ≡ false → eqb k 6 ≡ false → (leb 2 k && leb k 6) ≡ false
-quiet k a b c d e = go (dec_le 2 k) (dec_le k 6)
-  where
-    go : Dec (2 ≤ k) → Dec (k ≤ 6) → (leb 2 k && leb k 6) ≡ false
-    go (no h) _ = rw (lt-leb 2 k (omega arith))
-    go (yes h) (no l) = rw (le-leb 2 k h, lt-leb k 6 (omega arith))
-    go (yes h) (yes l) =
-        let a' = eqb-false k 2 a in
-        let b' = eqb-false k 3 b in
-        let c' = eqb-false k 4 c in
-        let d' = eqb-false k 5 d in
-        let e' = eqb-false k 6 e in
-        let w : ⊥ = omega arith in
-        absurd w
+-- an action that is no resume has another kind
+pub other_kind : (a : Action) → (a ≡ Resume → ⊥) → eqb (kind_number a) 7 ≡ false
+other_kind Unknown h = refl
+other_kind Tick h = refl
+other_kind Create h = refl
+other_kind Ready h = refl
+other_kind Block h = refl
+other_kind SetPriority h = refl
+other_kind End h = refl
+other_kind Resume h = absurd (h refl)
 
 pub late_resume : (k new stamp since tick : ℕ) → k ≡ 7 → late k new stamp since tick ≡ false
 unfolding late
@@ -123,9 +110,8 @@ module _ (c : Settings) (k : Clock) (e r : List ℕ) (x : Event) (form : well_fo
     unfolding other_refused wrong_thread wrong_place wrong_readiness names_thread
     at_end i = sym (rest z d f ∙ rw i (ap (λ (y : Bool). cond y 11 0) (exists_is not)))
 
-    pub at_none : OneOf (0 ∷ 1 ∷ 7 ∷ []) (tag_of Action.the_type x.action) → 0 ≡ refused_event s b
-    unfolding wrong_thread wrong_place wrong_readiness names_thread known
-    at_none o =
-        let ks : List ℕ = 0 ∷ 1 ∷ 7 ∷ [] in
-        let a = x.action in
-        sym (rest z d f ∙ rw (quiet (kind_number a) (other_kind a 2 ks refl o tt) (other_kind a 3 ks refl o tt) (other_kind a 4 ks refl o tt) (other_kind a 5 ks refl o tt) (other_kind a 6 ks refl o tt), other_kind a 2 ks refl o tt, other_kind a 3 ks refl o tt, other_kind a 4 ks refl o tt))
+    pub at_none : (x.action ≡ Unknown) ⊎ ((x.action ≡ Tick) ⊎ (x.action ≡ Resume)) → 0 ≡ refused_event s b
+    unfolding wrong_thread wrong_place wrong_readiness names_thread
+    at_none (inl i) = sym (rest z d f ∙ rw (ap kind_number i))
+    at_none (inr (inl i)) = sym (rest z d f ∙ rw (ap kind_number i))
+    at_none (inr (inr i)) = sym (rest z d f ∙ rw (ap kind_number i))

@@ -7,10 +7,6 @@ use Rattle.admission.specs.Tests.{create_refused}
 use borrow.Author.Rules.{rules}
 use Rattle.admission.proofs.refused_create.Goals as goal
 
--- the causes of 12
-abbrev misplaced : goal.Start → Bool
-misplaced c = let a = c.args in leb a.count a.partition || eqb a.mask 0 || ltb round_robin a.policy
-
 pub returns-then-t-ge64 : goal.returns-then-t-ge64
 unfolding create_refused
 returns-then-t-ge64 c = rw (le-leb 64 _ c.if-t-ge64.true)
@@ -22,11 +18,9 @@ returns-then-exists-at-eq1 c = rw (lt-leb 64 _ c.if-t-ge64.false, eq-eqb _ 1 c.i
 pub returns-then-count-partition : goal.returns-then-count-partition
 unfolding create_refused
 returns-then-count-partition c =
-    let wrong : misplaced c ≡ true = c.if-count-partition.true in
-    rw (lt-leb 64 _ c.if-t-ge64.false, ne_eqb _ 1 c.if-exists-at-eq1.false, wrong)
+    rw (lt-leb 64 _ c.if-t-ge64.false, ne_eqb _ 1 c.if-exists-at-eq1.false, c.if-count-partition.true)
 
 pub returns : goal.returns
 unfolding create_refused
 returns c =
-    let fine : misplaced c ≡ false = c.if-count-partition.false in
-    rw (lt-leb 64 _ c.if-t-ge64.false, ne_eqb _ 1 c.if-exists-at-eq1.false, fine)
+    rw (lt-leb 64 _ c.if-t-ge64.false, ne_eqb _ 1 c.if-exists-at-eq1.false, c.if-count-partition.false)
