@@ -1,5 +1,5 @@
 -- Clearing rows, one row more.
-use mathlib.Core.Path.{◌≡◌, refl, ap₂, ◌∙◌}
+use mathlib.Core.Path.{◌≡◌, ap₂, ◌∙◌}
 use mathlib.Core.List.{List, ◌++◌, append_assoc}
 use Prim.Native.Nat.{ℕ, ◌+◌, ◌*◌, ◌≤◌}
 use native.Mathlib.Omega.{arith}
@@ -10,10 +10,6 @@ use lib.Seq.{take_at, drop_at, drop-drop}
 
 abbrev zeros : ℕ → List ℕ
 zeros n = replicate n 0
-
--- no row is cleared yet
-pub cleared_none : (w : ℕ) (h : List ℕ) → h ≡ zeros (0 * w) ++ drop (0 * w) h
-cleared_none w h = let z : 0 * w ≡ 0 = omega arith in rw z refl
 
 -- p rows of w numbers are cleared, and the next is
 pub cleared_more : (w p n : ℕ) (h now row : List ℕ) → n ≡ w → row ≡ zeros w → now ≡ zeros (p * w) ++ drop (p * w) h

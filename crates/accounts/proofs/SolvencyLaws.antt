@@ -5,10 +5,9 @@ use Prim.Native.Nat.{ℕ, zero, suc, ◌+◌, ◌-◌, ◌*◌, ◌≤◌, ◌<�
 use mathlib.Core.Bool.{Bool, not, cond, ◌&&◌}
 use mathlib.Core.List.{List, ◌++◌}
 use lib.ListN.{length, get_or, set, take, drop, replicate}
-use lib.Seq.{get_or-set_same, get_or-set_other, set-get_or}
+use lib.Seq.{get_or-set_same, get_or-set_other}
 use lib.Dec.{eqb, ltb}
 use native.Mathlib.Omega.{arith}
-use native.Mathlib.Nat.{sub-zero}
 use native.Mathlib.Numerals.{add-one}
 use Rattle.lists.proofs.Parts.{part_at, part_set}
 use Rattle.sets.proofs.Laws as bits
@@ -21,7 +20,7 @@ use native.Mathlib.Decide.{ℕ_discrete, dec_lt}
 use borrow.Author.Tests.{eq-eqb, ne_eqb, lt-ltb, le-ltb}
 use Rattle.sets.specs.Bits.{in_set, Marked}
 use Rattle.units.specs.Units.{remaining_of, has_budget_of}
-use Rattle.accounts.specs.Solvency.{has_at, WeighedIn, Reweighed}
+use Rattle.accounts.specs.Solvency.{has_at, Reweighed}
 
 marked_here : (w p r : ℕ) (on : Bool) → p < 16 → Marked 16 w p on r → in_set r p ≡ on
 marked_here w p r on b m = m p b ∙ ap (λ (z : Bool). cond z on (in_set w p)) (eq-eqb p p refl)
@@ -39,34 +38,6 @@ module _ (old new budgets : List ℕ) (need set₀ set' p : ℕ) where
       go (no k) =
           marked_other set₀ p set' q (has_at new budgets need p) (omega (arith, b, few)) k m ∙ h q b
           ∙ ap (λ (x : ℕ). has_budget_of (remaining_of (get_or budgets q 0) x) need) (sym (same q k))
-
--- one total was stored
-pub reweighed_set : (old budgets : List ℕ) (need set₀ set' p v : ℕ) → p < 16 → length old ≡ 16
-    → Marked 16 set₀ p (has_budget_of (remaining_of (get_or budgets p 0) v) need) set' → Reweighed old (set old p v) budgets need set₀ set'
-reweighed_set old budgets need set₀ set' p v low wide m =
-    let e : v ≡ get_or (set old p v) p 0 = sym (get_or-set_same old p v 0 (omega (arith, low, wide))) in
-    reweighed old (set old p v) budgets need set₀ set' p (λ q n. get_or-set_other old p q v 0 n) low
-    (subst (λ (x : ℕ). Marked 16 set₀ p (has_budget_of (remaining_of (get_or budgets p 0) x) need) set') e m)
-
--- a slot in which nothing stands
-pub nothing_held : (l : List ℕ) (p held : ℕ) → held ≡ 0 → l ≡ set l p (get_or l p 0 - held)
-nothing_held l p held e = sym (ap (λ (x : ℕ). set l p (get_or l p 0 - x)) e ∙ ap (set l p) (sub-zero (get_or l p 0)) ∙ set-get_or l p 0)
-
-pub nothing_there : (l : List ℕ) (k : ℕ) → get_or l k 0 ≡ 0 → l ≡ set l k 0
-nothing_there l k e = sym (ap (set l k) (sym e) ∙ set-get_or l k 0)
-
--- ---- one partition more
-
-module _ (totals budgets : List ℕ) (need : ℕ) where
-  pub weighed_more : (i set₀ set' : ℕ) → i < 16 → Marked 16 set₀ i (has_at totals budgets need i) set' → WeighedIn totals budgets need i set₀
-      → WeighedIn totals budgets need (i + 1) set'
-  weighed_more i set₀ set' low m h q b = go (ℕ_discrete q i)
-    where
-      go : Dec (q ≡ i) → in_set set' q ≡ has_at totals budgets need q
-      go (yes e) = subst (λ (j : ℕ). in_set set' j ≡ has_at totals budgets need j) (sym e) (marked_here set₀ i set' (has_at totals budgets need i) low m)
-      go (no k) =
-          let c : q < i = omega arith in
-          marked_other set₀ i set' q (has_at totals budgets need i) (omega (arith, c, low)) k m ∙ h q c
 
 -- one change after another
 pub reweighed_twice : (a b c budgets : List ℕ) (need x y z : ℕ) → Reweighed a b budgets need x y → Reweighed b c budgets need y z → Reweighed a c budgets need x z

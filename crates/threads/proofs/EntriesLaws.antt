@@ -11,7 +11,7 @@ use native.Mathlib.Nat.{not-suc-le-zero}
 use lib.Dec.{eqb}
 use borrow.Author.Tests.{eq-eqb, ne_eqb, eqb-false, not-true}
 use lib.ListN.{length, get_or, take, drop, set, replicate, length-append, length-take, length-drop, length-replicate, take-append-drop, get_or-append}
-use lib.Seq.{length-take-le, take-suc, take_all, drop-length, drop-cons, append_snoc, set_at, take_at, drop_at, take-append_seam, get_or-append-add, get_or-drop, take-append-le, drop-append-le, take-take, get_or-take}
+use lib.Seq.{length-take-le, take-suc, take_all, drop-length, drop-cons, append_snoc, set_at, take_at, drop_at, take-append_seam, get_or-append-add, get_or-drop, take-append-le, drop-append-le, get_or-take}
 use Rattle.lists.specs.Lists.{any, member, keep, distinct}
 use Rattle.lists.proofs.Tests.{both, neither, clash}
 use Rattle.lists.proofs.All.{without_none}
@@ -287,21 +287,3 @@ some_first l t (suc n) m = omega arith
 pub member_before : (l : List ℕ) (t i : ℕ) → i < length l → member t (take (i + 1) l) ≡ true → get_or l i 0 ≢ t → member t (take i l) ≡ true
 member_before l t i h m n =
     sym (any_take (eqb t) l i h ∙ rw (ne_eqb t (get_or l i 0) (λ e. n (sym e))) (or-false (member t (take i l)))) ∙ m
-
-pub found : (l : List ℕ) (n t i : ℕ) → n ≤ length l → i < n → member t (take i l) ≡ false → t ≡ get_or l i 0 → FirstAt (take n l) t i
-found l n t i h k m e =
-    let c : length (take n l) ≡ n = length-take-le n l h in
-    record {
-      inside = omega (arith, c);
-      none_before = ap (member t) (take-take i n l (omega arith)) ∙ m;
-      here = λ _. e ∙ sym (get_or-take n l i 0 k);
-    }
-
-pub found_none : (l : List ℕ) (n t : ℕ) → n ≤ length l → member t (take n l) ≡ false → FirstAt (take n l) t n
-found_none l n t h m =
-    let c : length (take n l) ≡ n = length-take-le n l h in
-    record {
-      inside = omega (arith, c);
-      none_before = ap (member t) (take-take n n l (omega arith)) ∙ m;
-      here = λ b. let z : ⊥ = omega (arith, c) in absurd z;
-    }

@@ -1,6 +1,6 @@
 -- The task block by cases: not round robin; the last tick of a slice; an earlier one.
 use mathlib.Core.Logic.{◌≢◌}
-use mathlib.Core.Path.{◌≡◌, refl, sym, ◌∙◌}
+use mathlib.Core.Path.{◌≡◌, sym, ◌∙◌}
 use mathlib.Core.Bool.{false}
 use Prim.Native.Nat.{ℕ, ◌-◌, ◌≤◌, ◌<◌}
 use lib.Dec.{eqb, leb}
@@ -8,7 +8,7 @@ use borrow.Author.Tests.{eq-eqb, ne_eqb, le-leb, lt-leb}
 use native.Mathlib.Omega.{arith}
 use native.Mathlib.Decide.{dec_le}
 use Rattle.model.specs.Slices.{round_robin, full_slice, spent, slice_after}
-use Rattle.model.proofs.Slices.{refilled, lowered, uncounted, after_byte}
+use Rattle.model.proofs.Slices.{refilled, lowered, uncounted}
 use Rattle.threads.specs.declared.tasks.Task.{Task}
 use Rattle.threads.specs.Tasks.{counted_of}
 
@@ -37,11 +37,3 @@ module _ (t : Task) where
 
   pub counted-less : t.policy ≡ round_robin → 1 < t.slice → ◌≡◌ {A = Task} (record { policy = t.policy; slice = t.slice - 1 }) (counted_of t)
   counted-less p h = block-eq (t.slice - 1) (sym (lowered t.policy t.slice p (sym (spent_is t.policy t.slice p) ∙ lt-leb _ _ h)))
-
--- the slice of the counted block, which is a byte
-pub slice_is : (t : Task) → (counted_of t).slice ≡ slice_after t.policy t.slice
-unfolding counted_of
-slice_is t = refl
-
-pub slice_byte : (t : Task) → t.slice < 256 → (counted_of t).slice < 256
-slice_byte t h = rw (slice_is t) (after_byte t.policy t.slice h)

@@ -1,5 +1,3 @@
-use mathlib.Core.Path.{sym, subst}
-use Prim.Native.Nat.{ℕ}
 use Rattle.accounts.proofs.ChargingLaws.{idles, pays_for}
 use Rattle.accounts.proofs.charging.charge.Goals as goal
 

@@ -1,10 +1,8 @@
-use mathlib.Core.Path.{◌≡◌, ap, ◌∙◌}
+use mathlib.Core.Path.{ap, ◌∙◌}
 use Prim.Native.Nat.{◌+◌, ◌-◌, ◌*◌, ◌<◌}
 use native.Mathlib.Omega.{arith}
-use lib.ListN.{length, take, drop, length-take, length-drop}
 use borrow.Rule.Slice.PartMut.{put_mid}
-use Rattle.lists.proofs.Parts.{part_at, part_added}
-use borrow.Author.Rules.{rules}
+use Rattle.lists.proofs.Parts.{part_added}
 use Rattle.accounts.proofs.history.charge_slot.Goals as goal
 
 pub returns : goal.returns

@@ -1,14 +1,12 @@
 use mathlib.Core.Path.{◌≡◌, refl, ap, ◌∙◌}
-use mathlib.Core.List.{◌++◌}
 use Prim.Native.Nat.{ℕ, ◌≤◌, ◌-◌, ◌*◌, ◌+◌}
 use native.Mathlib.Omega.{arith}
 use native.Mathlib.Nat.{suc-mul}
 use native.Mathlib.Numerals.{add-one}
-use borrow.Author.Rules.{rules}
 use borrow.Rule.Slice.PartMut.{put_mid}
 use lib.ListN.{length, take, drop, replicate, length-take, length-drop}
 use Rattle.lists.proofs.Parts.{row_end}
-use Rattle.accounts.proofs.HistoryLaws.{cleared_none, cleared_more, cleared_length}
+use Rattle.accounts.proofs.HistoryLaws.{cleared_more, cleared_length}
 use Rattle.accounts.proofs.history.clear_rows.Goals as goal
 
 pub loop-p-preserved : goal.loop-p-preserved

@@ -1,14 +1,12 @@
-use mathlib.Core.Path.{◌≡◌, refl, ap, ◌∙◌}
-use Prim.Native.Nat.{ℕ, ◌+◌, ◌-◌, ◌*◌, ◌≤◌, ◌<◌}
+use mathlib.Core.Path.{refl, ap, ◌∙◌}
+use Prim.Native.Nat.{◌+◌, ◌-◌, ◌*◌, ◌≤◌, ◌<◌}
 use native.Mathlib.Omega.{arith}
-use borrow.Author.Rules.{rules}
 use borrow.Rule.Slice.PartMut.{put_mid}
 use lib.ListN.{length, get_or, take, drop, length-set, length-take, length-drop}
 use Rattle.lists.proofs.Parts.{row_end}
 use Rattle.model.specs.Step.{clear_history}
 use Rattle.model.proofs.Bounds.{clear_length}
 use Rattle.accounts.specs.Lowered.{lowered}
-use Rattle.accounts.specs.Solvency.{Reweighed}
 use Rattle.accounts.proofs.SolvencyLaws.{reweighed_twice, clear_covers, clear_total, clear_place}
 use Rattle.accounts.proofs.solvency.clear_slot.Goals as goal
 

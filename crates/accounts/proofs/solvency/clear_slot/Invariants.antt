@@ -1,15 +1,9 @@
-use mathlib.Core.Path.{◌≡◌, refl, ap, ◌∙◌}
-use Prim.Native.Nat.{ℕ, ◌+◌, ◌-◌, ◌*◌, ◌≤◌, ◌<◌}
-use native.Mathlib.Omega.{arith}
-use borrow.Author.Rules.{rules}
-use borrow.Rule.Slice.PartMut.{put_mid}
-use lib.ListN.{length, get_or, take, drop, length-set, length-take, length-drop}
-use Rattle.lists.proofs.Parts.{row_end}
+use mathlib.Core.Path.{◌≡◌}
+use Prim.Native.Nat.{◌-◌, ◌≤◌}
+use lib.ListN.{length}
 use Rattle.model.specs.Step.{clear_history}
-use Rattle.model.proofs.Bounds.{clear_length}
 use Rattle.accounts.specs.Lowered.{lowered}
 use Rattle.accounts.specs.Solvency.{Reweighed}
-use Rattle.accounts.proofs.SolvencyLaws.{reweighed_twice, clear_covers, clear_total, clear_place}
 use Rattle.accounts.proofs.solvency.clear_slot.Given as goal
 
 abbrev pub invariant-loop-p : goal.invariant-loop-p

@@ -1,11 +1,7 @@
-use mathlib.Core.Path.{◌≡◌, ap, ◌∙◌}
-use mathlib.Core.Bool.{◌&&◌, not}
-use Prim.Native.Nat.{ℕ, ◌-◌, ◌≤◌, ◌<◌}
+use mathlib.Core.Path.{◌∙◌}
+use Prim.Native.Nat.{◌<◌}
 use native.Mathlib.Omega.{arith}
-use borrow.Author.Rules.{rules}
-use lib.ListN.{length, get_or, length-set}
-use lib.Dec.{eqb, ltb}
-use Rattle.sets.specs.Bits.{in_set}
+use lib.ListN.{length-set}
 use Rattle.sheet.specs.Settings.{budget}
 use Rattle.sheet.proofs.Within.{share_most}
 use Rattle.accounts.proofs.SolvencyLaws.{amounts_more, paying_more, paying_none, length_same}

@@ -1,9 +1,5 @@
-use mathlib.Core.Path.{◌≡◌, subst}
-use Prim.Native.Nat.{ℕ, ◌-◌, ◌≤◌}
-use native.Mathlib.Omega.{arith}
-use borrow.Author.Rules.{rules}
+use Prim.Native.Nat.{◌-◌, ◌≤◌}
 use Rattle.accounts.specs.Solvency.{WeighedIn}
-use Rattle.accounts.proofs.SolvencyLaws.{weighed_more}
 use Rattle.accounts.proofs.solvency.weigh_all.Given as goal
 
 abbrev pub invariant-loop-p : goal.invariant-loop-p

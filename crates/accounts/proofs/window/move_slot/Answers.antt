@@ -1,10 +1,8 @@
-use mathlib.Core.Path.{sym, subst}
+use mathlib.Core.Path.{subst}
 use Prim.Native.Nat.{ℕ}
-use Rattle.sheet.specs.Settings.{W, need}
-use Rattle.accounts.specs.Lowered.{Covered}
+use Rattle.sheet.specs.Settings.{need}
 use Rattle.accounts.specs.Solvency.{Reweighed}
 use Rattle.accounts.proofs.WindowLaws.{moved}
-use borrow.Author.Rules.{rules}
 use Rattle.accounts.proofs.window.move_slot.Goals as goal
 
 pub returns : goal.returns

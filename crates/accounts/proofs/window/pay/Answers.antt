@@ -1,10 +1,8 @@
 use mathlib.Core.Path.{subst}
 use Prim.Native.Nat.{ℕ}
-use native.Mathlib.Omega.{arith}
 use Rattle.sheet.specs.Settings.{need}
 use Rattle.accounts.specs.Solvency.{Reweighed}
 use Rattle.accounts.proofs.WindowLaws.{idle_weighed, paid_weighed}
-use borrow.Author.Rules.{rules}
 use Rattle.accounts.proofs.window.pay.Goals as goal
 
 pub returns-then-running-eq-IDLE : goal.returns-then-running-eq-IDLE

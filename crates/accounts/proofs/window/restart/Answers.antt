@@ -4,7 +4,6 @@ use lib.ListN.{replicate}
 use Rattle.sheet.specs.Settings.{need}
 use Rattle.accounts.specs.Solvency.{WeighedIn}
 use Rattle.accounts.proofs.WindowLaws.{restarted}
-use borrow.Author.Rules.{rules}
 use Rattle.accounts.proofs.window.restart.Goals as goal
 
 pub returns : goal.returns
