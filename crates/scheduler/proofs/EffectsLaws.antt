@@ -2,17 +2,14 @@
 use mathlib.Core.Logic.{◌≢◌}
 use mathlib.Core.Path.{◌≡◌, refl, sym, ap, subst, ◌∙◌}
 use Prim.Native.Nat.{ℕ, ◌+◌, ◌*◌, ◌≤◌, ◌<◌}
-use mathlib.Core.Bool.{Bool, true, not, cond}
+use mathlib.Core.Bool.{Bool, true, cond}
 use mathlib.Core.List.{List, [], ◌∷◌, ◌++◌}
 use lib.ListN.{length, get_or, take, drop, length-append, length-take, length-drop}
 use lib.Seq.{length-take-le}
-use lib.Dec.{T, eqb}
+use lib.Dec.{eqb}
 use native.Mathlib.Omega.{arith}
 use native.Mathlib.Decide.{ℕ_discrete}
-use borrow.Author.Tests.{eq-eqb, ne_eqb, eqb-false}
-use denote.Enum.Declared.{tag_of}
-use mir.Val.{has_key}
-use types.Run.{OneOf}
+use borrow.Author.Tests.{eq-eqb, ne_eqb}
 use Rattle.lists.specs.Lists.{sum, member}
 use Rattle.lists.proofs.Tests.{clash}
 use Rattle.lists.proofs.Sums.{entry_le}
@@ -23,7 +20,7 @@ use Rattle.sheet.specs.declared.Settings.{Settings}
 use Rattle.model.specs.State.{thread, used, queue_of, idle, wanted, State, Thread}
 use Rattle.model.specs.Typed.{Lengths}
 use Rattle.model.specs.Event
-use Rattle.model.specs.Event.{kind_of, thread_of, stamp_of, known}
+use Rattle.model.specs.Event.{kind_of, thread_of, stamp_of}
 use Rattle.model.specs.Facts.{Settled}
 use Rattle.model.specs.Slices.{spent, ends}
 use Rattle.model.specs.Step.{Saved, saved, billed, charge, move_slot, to_tail, turned, sliced, ticked, restart, act, apply}
@@ -37,6 +34,7 @@ use Rattle.invariants.proofs.Kept.{charge_settled, length_charge}
 use Rattle.invariants.proofs.Applied.{Left, named, apply_left}
 use Rattle.invariants.proofs.Turns.{none_above, sliced_queue}
 use Rattle.event.specs.declared.kinds.Action.{Action}
+use Rattle.event.specs.declared.kinds.Action.TheVariants.{Tick, Resume}
 use Rattle.event.specs.Kinds.{kind_number}
 use Rattle.event.specs.Bytes.{bytes_of}
 use Rattle.event.specs.declared.Event.{Event}
@@ -50,9 +48,7 @@ use Rattle.accounts.specs.Lowered as Slots
 use Rattle.accounts.specs.Solvency.{WeighedIn, Reweighed}
 use Rattle.accounts.specs.Window.{Restarted}
 use Rattle.threads.specs.Able.{Able, Acted}
-use Rattle.threads.proofs.ActionsLaws.{act_ready, own_kind}
-use Rattle.event.specs.contracts.kinds.Action
-use Rattle.event.proofs.Told.{told_not}
+use Rattle.threads.proofs.ActionsLaws.{act_ready}
 use Rattle.decision.specs.Keeping as Keeping
 use Rattle.decision.specs.Keeping.{KeptIn, Lined}
 use Rattle.decision.specs.Upkeep.{HeldBy}
@@ -405,5 +401,8 @@ module _ (c : Settings) (u : List ℕ) (k : Clock) (ts : Columns) (q h budgets t
 pub not_resume : (x : Event) → kind_of (bytes_of x) ≡ 1 → kind_of (bytes_of x) ≢ 7
 not_resume x e z = omega (arith, e, z)
 
-pub no_kind : (a : Action) (i : ℕ) (ks : List ℕ) → known i ≡ true → OneOf ks (tag_of Action.the_type a) → T (not (has_key ks i)) → kind_number a ≢ i
-no_kind a i ks f o z = eqb-false (kind_number a) i (told_not a (kind_number a) i ks (own_kind a) f o z)
+pub only_tick : (a : Action) → kind_number a ≡ 1 → a ≡ Tick
+only_tick a e = grind arith
+
+pub only_resume : (a : Action) → kind_number a ≡ 7 → a ≡ Resume
+only_resume a e = grind arith

@@ -110,7 +110,3 @@ line_put done line out first part i k d o e p =
 
     back : drop k (drop (12 * i) out) ≡ drop (12 * (i + 1)) first
     back = let w : 12 * i + 12 ≡ 12 * (i + 1) = omega arith in rw (rest, e, drop-drop 12 (12 * i) first, w)
-
-pub put_length : (done line first : List ℕ) (i : ℕ) → length done ≡ 12 * i → length line ≡ 12 → 12 * i + 12 ≤ length first
-    → length ((done ++ line) ++ drop (12 * (i + 1)) first) ≡ length first
-put_length done line first i d l r = simp (length-append, length-drop) (omega arith)

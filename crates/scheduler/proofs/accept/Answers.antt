@@ -1,6 +1,5 @@
 use Rattle.model.specs.Arrays.{columns}
 use Rattle.scheduler.proofs.SchedulerLaws.{ready, decided_inside, decided}
-use borrow.Author.Rules.{rules}
 use Rattle.scheduler.proofs.accept.Goals as goal
 
 pub apply-d-requires : goal.apply-d-requires
@@ -15,7 +14,7 @@ favoured_after-next-requires c =
     let g = c.requires in
     let d = c.apply-d in
     let w = c.choose-decision in
-    decided_inside a.settings a.used.now a.c (columns a.exists.now a.ready.now a.partitions.now a.priorities.now a.masks.now a.policies.now a.slices.now) a.queue.now a.history.now a.budgets.now a.tops.now a.firsts.now a.sets a.favoured g.0 a.event g.1 g.2 d.new.1.0 d.result.clock _ _ _ _ _ d.result.sets w.result d.ensures w.ensures
+    decided_inside a.settings a.used.now a.c (columns a.exists.now a.ready.now a.partitions.now a.priorities.now a.masks.now a.policies.now a.slices.now) a.queue.now a.history.now a.budgets.now a.tops.now a.firsts.now a.sets a.favoured g.0 a.event g.1 g.2 d.new.used d.result.clock (columns d.new.exists d.new.ready d.new.partitions d.new.priorities d.new.masks d.new.policies d.new.slices) d.new.queue d.new.history d.new.tops d.new.firsts d.result.sets w.result d.ensures w.ensures
 
 pub returns : goal.returns
 returns c =
@@ -24,4 +23,4 @@ returns c =
     let d = c.apply-d in
     let w = c.choose-decision in
     let next = c.favoured_after-next in
-    decided a.settings a.used.now a.c (columns a.exists.now a.ready.now a.partitions.now a.priorities.now a.masks.now a.policies.now a.slices.now) a.queue.now a.history.now a.budgets.now a.tops.now a.firsts.now a.sets a.favoured g.0 a.event g.1 g.2 d.new.1.0 d.result.clock _ _ _ _ _ d.result.sets w.result d.ensures w.ensures next.result next.ensures
+    decided a.settings a.used.now a.c (columns a.exists.now a.ready.now a.partitions.now a.priorities.now a.masks.now a.policies.now a.slices.now) a.queue.now a.history.now a.budgets.now a.tops.now a.firsts.now a.sets a.favoured g.0 a.event g.1 g.2 d.new.used d.result.clock (columns d.new.exists d.new.ready d.new.partitions d.new.priorities d.new.masks d.new.policies d.new.slices) d.new.queue d.new.history d.new.tops d.new.firsts d.result.sets w.result d.ensures w.ensures next.result next.ensures

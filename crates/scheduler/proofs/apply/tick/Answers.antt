@@ -5,7 +5,6 @@ use Rattle.event.specs.Bytes.{bytes_of}
 use Rattle.scheduler.specs.Effects.{Applied}
 use Rattle.scheduler.specs.declared.apply.Done.{Done}
 use Rattle.scheduler.proofs.EffectsLaws.{not_resume, ticking, turning, followed_turn, tick_applied}
-use borrow.Author.Rules.{rules}
 use Rattle.scheduler.proofs.apply.tick.Goals as goal
 
 pub advance-account-requires : goal.advance-account-requires
@@ -26,7 +25,7 @@ follow_turn-competing-requires c =
     let a = start.args in
     let d = c.advance-account in
     let f = c.turn-ended in
-    followed_turn a.settings a.used.now a.c (columns a.exists.now a.ready.now a.partitions.now a.priorities.now a.masks.now a.policies.now a.slices.now) a.queue.now a.history.now a.budgets.now a.tops.now a.firsts.now a.sets a.event start.requires.0 start.requires.1 d.new.1.0 d.result.clock _ d.ensures.0 f.new.1.0 f.new.1.1.0 f.ensures.1 f.ensures.2 f.result f.ensures.0
+    followed_turn a.settings a.used.now a.c (columns a.exists.now a.ready.now a.partitions.now a.priorities.now a.masks.now a.policies.now a.slices.now) a.queue.now a.history.now a.budgets.now a.tops.now a.firsts.now a.sets a.event start.requires.0 start.requires.1 d.new.used d.result.clock _ d.ensures.0 f.new.slices f.new.queue f.ensures.1 f.ensures.2 f.result f.ensures.0
 
 pub returns : goal.returns
 returns c =
@@ -37,5 +36,5 @@ returns c =
     let l = c.follow_turn-competing in
     let ts = (columns a.exists.now a.ready.now a.partitions.now a.priorities.now a.masks.now a.policies.now a.slices.now) in
     let v = saved (state_of a.settings a.used.now a.c ts a.queue.now) a.history.now in
-    subst (λ (z : Done). Applied a.settings v d.new.1.0 z.clock (with_slice_column ts f.new.1.0) f.new.1.1.0 d.new.1.1.1.1.0 a.budgets.now l.new.0 l.new.1.0 z.sets (bytes_of a.event)) (sym c.finish.ensures)
-    (tick_applied a.settings a.used.now a.c (columns a.exists.now a.ready.now a.partitions.now a.priorities.now a.masks.now a.policies.now a.slices.now) a.queue.now a.history.now a.budgets.now a.tops.now a.firsts.now a.sets a.event start.requires.0 start.requires.1 d.new.1.0 d.result.clock _ d.ensures.0 f.new.1.0 f.new.1.1.0 f.ensures.1 f.ensures.2 d.result.solvent l.result l.new.0 l.new.1.0 d.ensures.1 l.ensures)
+    subst (λ (z : Done). Applied a.settings v d.new.used z.clock (with_slice_column ts f.new.slices) f.new.queue d.new.history a.budgets.now l.new.tops l.new.firsts z.sets (bytes_of a.event)) (sym c.finish.ensures)
+    (tick_applied a.settings a.used.now a.c (columns a.exists.now a.ready.now a.partitions.now a.priorities.now a.masks.now a.policies.now a.slices.now) a.queue.now a.history.now a.budgets.now a.tops.now a.firsts.now a.sets a.event start.requires.0 start.requires.1 d.new.used d.result.clock _ d.ensures.0 f.new.slices f.new.queue f.ensures.1 f.ensures.2 d.result.solvent l.result l.new.tops l.new.firsts d.ensures.1 l.ensures)

@@ -2,7 +2,6 @@ use mathlib.Core.Path.{refl}
 use native.Mathlib.Omega.{arith}
 use Rattle.model.specs.Arrays.{columns}
 use Rattle.scheduler.proofs.EffectsLaws.{inside, payable, able, followed, applied}
-use borrow.Author.Rules.{rules}
 use Rattle.scheduler.proofs.apply.work.Goals as goal
 
 pub overflow_cast-home : goal.overflow_cast-home
@@ -35,7 +34,7 @@ follow-competing-requires c =
     let g = c.requires in
     let d = c.pay-paid in
     let f = c.act-n in
-    followed a.settings a.used.now a.c (columns a.exists.now a.ready.now a.partitions.now a.priorities.now a.masks.now a.policies.now a.slices.now) a.queue.now a.history.now a.budgets.now a.tops.now a.firsts.now a.sets a.event g.0 g.1 g.2 d.new.1.0 d.result.clock _ _ _ f.result d.ensures.0 f.ensures.0 f.ensures.1 a.event.action a.event.thread _ refl refl refl
+    followed a.settings a.used.now a.c (columns a.exists.now a.ready.now a.partitions.now a.priorities.now a.masks.now a.policies.now a.slices.now) a.queue.now a.history.now a.budgets.now a.tops.now a.firsts.now a.sets a.event g.0 g.1 g.2 d.new.used d.result.clock _ _ _ f.result d.ensures.0 f.ensures.0 f.ensures.1 a.event.action a.event.thread _ refl refl refl
 
 pub returns : goal.returns
 returns c =
@@ -44,4 +43,4 @@ returns c =
     let d = c.pay-paid in
     let f = c.act-n in
     let l = c.follow-competing in
-    applied a.settings a.used.now a.c (columns a.exists.now a.ready.now a.partitions.now a.priorities.now a.masks.now a.policies.now a.slices.now) a.queue.now a.history.now a.budgets.now a.tops.now a.firsts.now a.sets a.event g.0 g.1 g.2 d.new.1.0 d.result.clock _ _ _ f.result d.ensures.0 f.ensures.0 f.ensures.1 l.new.0 l.new.1.0 l.result d.result.solvent d.ensures.1 l.ensures
+    applied a.settings a.used.now a.c (columns a.exists.now a.ready.now a.partitions.now a.priorities.now a.masks.now a.policies.now a.slices.now) a.queue.now a.history.now a.budgets.now a.tops.now a.firsts.now a.sets a.event g.0 g.1 g.2 d.new.used d.result.clock _ _ _ f.result d.ensures.0 f.ensures.0 f.ensures.1 l.new.tops l.new.firsts l.result d.result.solvent d.ensures.1 l.ensures

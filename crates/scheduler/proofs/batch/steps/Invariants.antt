@@ -1,23 +1,18 @@
-use mathlib.Core.Path.{◌≡◌, refl, ap, ◌∙◌}
-use mathlib.Core.List.{List, ◌++◌}
-use Prim.Native.Nat.{ℕ, ◌+◌, ◌-◌, ◌*◌, ◌≤◌, ◌<◌}
-use native.Mathlib.Omega.{arith}
-use borrow.Author.Rules.{rules}
-use lib.ListN.{length, drop, length-take, length-drop}
+use mathlib.Core.Path.{◌≡◌}
+use mathlib.Core.List.{◌++◌}
+use Prim.Native.Nat.{◌-◌, ◌*◌, ◌≤◌}
+use lib.ListN.{drop}
 use Rattle.model.specs.Arrays.{columns, state_of}
 use Rattle.model.specs.Step.{saved}
 use Rattle.model.specs.Run.{run, after}
-use Rattle.model.specs.Answers.{line_of, text_of}
 use Rattle.scheduler.specs.Stepping.{Whole}
-use Rattle.scheduler.proofs.SchedulerLaws.{taken_arrays}
 use Rattle.model.specs.Stream.{events_in, lines_of}
-use Rattle.scheduler.proofs.Longer.{nothing_taken, nothing_written, record_part, state_next, lines_next, line_put, put_length, text_length, run_lines_length}
 use Rattle.scheduler.proofs.batch.steps.Given as goal
 
 abbrev pub invariant-loop-i : goal.invariant-loop-i
 invariant-loop-i l =
     let v = saved (state_of l.settings l.initial.used l.initial.t (columns l.initial.exists l.initial.ready l.initial.partitions l.initial.priorities l.initial.masks l.initial.policies l.initial.slices) l.initial.queue) l.initial.history in
-    (l.i ≤ l.n) × (length l.history ≡ length l.initial.history) × (length l.out ≡ length l.initial.out)
+    (l.i ≤ l.n)
     × (saved (state_of l.settings l.used l.t (columns l.exists l.ready l.partitions l.priorities l.masks l.policies l.slices) l.queue) l.history ≡ after v (events_in l.events l.i))
     × (l.out ≡ lines_of (run v (events_in l.events l.i)) ++ drop (12 * l.i) l.initial.out)
     × Whole l.settings l.used l.t (columns l.exists l.ready l.partitions l.priorities l.masks l.policies l.slices) l.queue l.history l.budgets l.tops l.firsts l.kept l.ran
