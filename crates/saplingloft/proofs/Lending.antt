@@ -79,7 +79,7 @@ module _ (b : Balance) (word : List ℕ) where
 
     -- z as it lies in 64 bits
     back : to_z w64 (of_z w64 z) ≡ z
-    back = to_z-of_z (record { sfits = omega (arith, narrow) })
+    back = to_z-of_z {w = w64} (record { sfits = omega (arith, narrow) })
 
     pub narrow_read : Narrow (to_z w64 (of_z w64 z))
     narrow_read = subst⁻¹ Narrow back narrow

@@ -1,5 +1,4 @@
 use mathlib.Core.Path.{◌∙◌}
-use borrow.Author.Rules.{rules}
 use Rattle.saplingloft.proofs.saplingloft_lent_decision.Goals as goal
 
 pub returns : goal.returns

@@ -1,5 +1,4 @@
 use Rattle.doors.proofs.Lending.{answered_as}
-use borrow.Author.Rules.{rules}
 use Rattle.saplingloft.proofs.saplingloft_lent_event.Goals as goal
 
 pub returns : goal.returns

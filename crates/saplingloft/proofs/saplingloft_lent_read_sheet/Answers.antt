@@ -1,24 +1,20 @@
 use Rattle.saplingloft.proofs.Lending.{read_no, sixteen, read_yes}
-use borrow.Author.Rules.{rules}
 use Rattle.saplingloft.proofs.saplingloft_lent_read_sheet.Goals as goal
 
 pub keep_settings-requires : goal.keep_settings-requires
 keep_settings-requires c =
-    let t = c in
-    let r = t.read_sheet-reading in
-    let a = t.args in
-    sixteen a.sheet.now a.settings.now a.shares.now r.result.outcome r.ensures.0 r.result.settings t.enum_told.given.1 r.ensures.1
+    let r = c.read_sheet-reading in
+    let a = c.args in
+    sixteen a.sheet.now a.settings.now a.shares.now r.result.outcome r.ensures.0 r.result.settings c.in-Accepted.is r.ensures.1
 
 pub returns-in-Refused : goal.returns-in-Refused
 returns-in-Refused c =
     let r = c.read_sheet-reading in
     let a = c.args in
-    let g = c.outcome.given in
-    read_no a.sheet.now a.settings.now a.shares.now r.result.outcome r.ensures.0 g.0.0 _ g.1 c.number.ensures
+    read_no a.sheet.now a.settings.now a.shares.now r.result.outcome r.ensures.0 c.in-Refused.refusal _ c.in-Refused.is c.number.ensures
 
 pub returns-in-Accepted : goal.returns-in-Accepted
 returns-in-Accepted c =
-    let t = c in
-    let r = t.read_sheet-reading in
-    let a = t.args in
-    read_yes a.sheet.now a.settings.now a.shares.now r.result.outcome r.ensures.0 r.result.settings t.enum_told.given.1 r.ensures.1 _ _ c.keep_settings.ensures
+    let r = c.read_sheet-reading in
+    let a = c.args in
+    read_yes a.sheet.now a.settings.now a.shares.now r.result.outcome r.ensures.0 r.result.settings c.in-Accepted.is r.ensures.1 _ _ c.keep_settings.ensures

@@ -1,5 +1,4 @@
 use Rattle.doors.proofs.Lending.{begun_as}
-use borrow.Author.Rules.{rules}
 use Rattle.saplingloft.proofs.saplingloft_lent_start.Goals as goal
 
 pub returns : goal.returns

@@ -1,5 +1,4 @@
 use Rattle.saplingloft.proofs.Lending.{written_as}
-use borrow.Author.Rules.{rules}
 use Rattle.saplingloft.proofs.saplingloft_lent_write_sheet.Goals as goal
 
 pub returns : goal.returns

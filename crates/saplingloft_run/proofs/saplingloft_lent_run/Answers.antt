@@ -1,5 +1,4 @@
 use Rattle.doors.proofs.Lending.{ran_as}
-use borrow.Author.Rules.{rules}
 use Rattle.saplingloft_run.proofs.saplingloft_lent_run.Goals as goal
 
 pub returns : goal.returns
