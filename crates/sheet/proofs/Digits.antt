@@ -8,7 +8,6 @@ use native.Mathlib.Numerals.{add-one}
 use native.Mathlib.Omega.{arith}
 use native.Mathlib.Decide.{dec_le}
 use borrow.Author.Tests.{le-leb, lt-leb}
-use lib.Dec.{lit≤}
 use lib.ListN.{length, get_or, drop, set, drop_of_length-le, length-set}
 use lib.Seq.{drop-cons, get_or-set_same, drop-set-lt}
 use Rattle.sheet.specs.Records.{Said, says, wrong_form, is_digit, number_from, digits_of}
@@ -40,15 +39,6 @@ number_end v l i h = rw (drop_of_length-le l h)
 
 pub ten_more : (i : ℕ) → 10 ^ (i + 1) ≡ 10 ^ i * 10
 ten_more i = rw (add-one, pow-suc)
-
-pub ten_below : (i : ℕ) → i < 6 → 10 ^ i ≤ 100000
-ten_below zero h = lit≤ tt
-ten_below (suc zero) h = lit≤ tt
-ten_below (suc (suc zero)) h = lit≤ tt
-ten_below (suc (suc (suc zero))) h = lit≤ tt
-ten_below (suc (suc (suc (suc zero)))) h = lit≤ tt
-ten_below (suc (suc (suc (suc (suc zero))))) h = lit≤ tt
-ten_below (suc (suc (suc (suc (suc (suc n)))))) h = omega arith
 
 pub number_cons : (v b : ℕ) (l : List ℕ) → is_digit b ≡ true → number_from v (b ∷ l) ≡ number_from (v * 10 + (b - 48)) l
 unfolding number_from
