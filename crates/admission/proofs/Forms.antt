@@ -1,5 +1,5 @@
 -- What decoding refused comes first; what it did not refuse has the form that the other tests ask for.
-use mathlib.Core.Path.{◌≡◌, refl, sym, ap, subst, ◌∙◌}
+use mathlib.Core.Path.{◌≡◌, refl, sym, ap, ◌∙◌}
 use Prim.Native.Nat.{ℕ}
 use mathlib.Core.Bool.{Bool, true, false, not, cond}
 use mathlib.Core.List.{List}
@@ -9,7 +9,6 @@ use borrow.Author.Tests.{eqb-true, eq-eqb}
 use Rattle.lists.proofs.Tests.{clash}
 use Rattle.refusals.specs.Refusals.{outcome_of}
 use Rattle.refusals.specs.declared.Refusal.{Refusal}
-use Rattle.refusals.specs.declared.Outcome.{Outcome}
 use Rattle.refusals.specs.declared.Outcome.TheVariants as outcome
 use Rattle.refusals.proofs.Laws.{never_zero}
 use Rattle.sheet.specs.declared.Settings.{Settings}
@@ -20,7 +19,7 @@ use Rattle.model.specs.declared.Clock.{Clock}
 use Rattle.event.specs.Bytes.{bytes_of, refused_form, DecodedFrom}
 use Rattle.event.specs.declared.Decoded.{Decoded}
 use Rattle.event.proofs.EventLaws.{formed_bytes}
-use Rattle.admission.specs.Tests.{Refuses, Formed, RefusesAll}
+use Rattle.admission.specs.Tests.{Formed, RefusesAll}
 
 form_first : (s : State) (b : List ℕ) → eqb (refused_form b) 0 ≡ false → refused_form b ≡ refused_event s b
 unfolding refused_form refused_event
@@ -35,9 +34,6 @@ module _ (c : Settings) (k : Clock) (e r : List ℕ) (d : Decoded) where
   pub refuses_form : (x : Refusal) → d.outcome ≡ outcome.Refused x → RefusesAll c k e r d d.outcome
   refuses_form x f b w u ts q =
       w.refusal ∙ form_first (state_of c u k (with_flag_columns ts e r) q) b (rw (sym w.refusal ∙ ap outcome_of f) (never_zero x))
-
-  pub refuses_event : d.outcome ≡ outcome.Accepted → (o : Outcome) → Refuses c k e r (bytes_of d.event) o → RefusesAll c k e r d o
-  refuses_event f o g b w = subst (λ (l : List ℕ). Refuses c k e r l o) (sym (w.bytes (ap outcome_of f))) g
 
 pub formed : (b : List ℕ) (d : Decoded) → DecodedFrom b d → Formed d
 formed b d w = record {

@@ -3,18 +3,18 @@ use mathlib.Core.Logic.{◌⊎◌, inl, inr}
 use mathlib.Core.Path.{◌≡◌, refl, sym, ap, ◌∙◌}
 use Prim.Native.Nat.{ℕ, ◌+◌, ◌*◌, ◌≤◌, ◌<◌}
 use mathlib.Core.Bool.{Bool, true, false, not, cond, or-false, ◌&&◌, ◌||◌}
-use mathlib.Core.List.{List, [], ◌∷◌}
+use mathlib.Core.List.{List}
 use native.Mathlib.Omega.{arith}
 use native.Mathlib.Decide.{dec_le}
-use lib.Dec.{T, leb, ltb, eqb}
+use lib.Dec.{leb, ltb, eqb}
 use lib.ListN.{get_or}
-use borrow.Author.Tests.{le-leb, lt-leb, eqb-false}
+use borrow.Author.Tests.{le-leb}
 use Rattle.units.specs.Units.{elapsed_of}
 use Rattle.sheet.specs.Settings.{C}
 use Rattle.sheet.specs.declared.Settings.{Settings}
 use Rattle.model.specs.State.{thread, State, Thread}
 use Rattle.model.specs.Slices.{round_robin}
-use Rattle.model.specs.Event.{stamp_of, known, names_thread, well_formed, too_long, wrong_thread, wrong_place, wrong_readiness, refused_event}
+use Rattle.model.specs.Event.{stamp_of, names_thread, well_formed, too_long, wrong_thread, wrong_place, wrong_readiness, refused_event}
 use Rattle.model.specs.Arrays.{Columns, with_flag_columns, state_of}
 use Rattle.model.specs.declared.Clock.{Clock}
 use Rattle.model.proofs.Table.{thread_at_law}
@@ -35,14 +35,6 @@ other_kind Block h = refl
 other_kind SetPriority h = refl
 other_kind End h = refl
 other_kind Resume h = absurd (h refl)
-
-pub late_resume : (k new stamp since tick : ℕ) → k ≡ 7 → late k new stamp since tick ≡ false
-unfolding late
-late_resume k new stamp since tick e = rw e
-
-pub late_other : (k new stamp since tick : ℕ) → eqb k 7 ≡ false → late k new stamp since tick ≡ ltb (2 * tick) (since + elapsed_of new stamp)
-unfolding late
-late_other k new stamp since tick e = rw e
 
 module _ (c : Settings) (k : Clock) (e r : List ℕ) (x : Event) (form : well_formed (bytes_of x) ≡ true) (st : x.stamp ≡ stamp_of (bytes_of x)) (u : List ℕ) (others : Columns) (q : List ℕ) where
   abbrev ts : Columns

@@ -1,7 +1,6 @@
 use mathlib.Core.Path.{ap, ◌∙◌}
 use Rattle.event.specs.Kinds.{kind_number}
 use Rattle.admission.proofs.Laws.{is_late, at_create, at_ready, at_block, at_priority, at_end, at_none}
-use borrow.Author.Rules.{rules}
 use Rattle.admission.proofs.refused_action.Goals as goal
 
 pub returns-then-too_long : goal.returns-then-too_long

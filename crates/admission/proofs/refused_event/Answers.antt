@@ -1,4 +1,4 @@
-use Rattle.admission.proofs.Forms.{refuses_form, refuses_event}
+use Rattle.admission.proofs.Forms.{refuses_form}
 use Rattle.admission.proofs.refused_event.Goals as goal
 
 pub returns-in-Refused : goal.returns-in-Refused

@@ -4,8 +4,8 @@ use Rattle.admission.proofs.refused_other.Goals as goal
 
 pub returns-then-missing : goal.returns-then-missing
 unfolding other_refused
-returns-then-missing c = rw (← c.missing.ensures, c.if-missing.true)
+returns-then-missing c = search rules
 
 pub returns : goal.returns
 unfolding other_refused
-returns c = rw (← c.missing.ensures, c.if-missing.false)
+returns c = search rules

@@ -1,15 +1,13 @@
-use mathlib.Core.Path.{sym, ap}
-use Rattle.event.specs.Kinds.{kind_number}
-use Rattle.admission.proofs.Laws.{late_resume, late_other, other_kind}
+use borrow.Author.Rules.{rules}
+use Rattle.admission.specs.Tests.{late}
+use Rattle.admission.proofs.Laws.{other_kind}
 use Rattle.admission.proofs.too_long.Goals as goal
 
 pub returns-in-Resume : goal.returns-in-Resume
-returns-in-Resume c =
-    let a = c.args in
-    sym (late_resume (kind_number a.action) a.new a.stamp a.since.0 a.tick.0 (ap kind_number c.in-Resume.is))
+unfolding late
+returns-in-Resume c = search rules
 
 pub returns-in_default : goal.returns-in_default
+unfolding late
 returns-in_default c =
-    let a = c.args in
-    rw (late_other (kind_number a.action) a.new a.stamp a.since.0 a.tick.0 (other_kind a.action c.in_default.not-Resume), ← c.elapsed-elapsed.ensures)
-    c.above_two_ticks.ensures
+    rw (other_kind c.args.action c.in_default.not-Resume, ← c.elapsed-elapsed.ensures) c.above_two_ticks.ensures
