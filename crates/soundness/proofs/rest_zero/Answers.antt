@@ -17,8 +17,8 @@ loop-p-preserved c =
     let a = c.args in
     let turn = c.loop-p in (
       omega arith,
-      none_past turn.p a.t1.count (share a.t1 turn.p) (get_or a.used.now turn.p 0) turn.bits c.past-bits.result c.past-bits.ensures
-          ∙ rw turn.invariant.1 (all_next (none a.t1 a.used.now) turn.p),
+      none_past turn.p a.settings.count (share a.settings turn.p) (get_or a.used.now turn.p 0) turn.bits c.past-bits.result c.past-bits.ensures
+          ∙ rw turn.invariant.1 (all_next (none a.settings a.used.now) turn.p),
     )
 
 pub returns : goal.returns
@@ -26,4 +26,4 @@ unfolding rest_zero
 returns c =
     let a = c.args in
     let e : c.loop-p.p ≡ 16 = omega (arith, c.loop-p-test.false) in
-    c.loop-p.invariant.1 ∙ ap (λ (i : ℕ). all (none a.t1 a.used.now) (below i)) e
+    c.loop-p.invariant.1 ∙ ap (λ (i : ℕ). all (none a.settings a.used.now) (below i)) e

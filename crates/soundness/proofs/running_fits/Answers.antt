@@ -15,6 +15,5 @@ returns-then-running-ge64 c =
 
 pub returns : goal.returns
 returns c =
-    let test = c in
-    let a = test.args in
-    runs_inside a.ready.now a.masks.now a.running a.core test.if-running-eq255.false (omega (arith, test.if-running-ge64.false)) _ c.allowed.ensures
+    let a = c.args in
+    runs_inside a.ready.now a.masks.now a.running a.core c.if-running-eq255.false (omega (arith, c.if-running-ge64.false)) _ c.allowed.ensures

@@ -1,6 +1,5 @@
 -- `sound` is the model's soundness with flags of 0 and 1, for settings within their limits and a history long enough.
 use Rattle.std.proofs.Common.{arith, rules}
-use borrow.Author.Tests.{not-true, not-false}
 use Rattle.sheet.proofs.Within.{limits_of}
 use Rattle.model.specs.Arrays.{columns}
 use Rattle.soundness.proofs.Whole.{bad_records, bad_queue, last_parts}
@@ -8,55 +7,45 @@ use Rattle.soundness.proofs.sound.Goals as goal
 
 pub overflow_cast-few : goal.overflow_cast-few
 overflow_cast-few c =
-    let start = c in
-    omega (arith, (limits_of start.args.settings start.requires.0).count_high)
+    omega (arith, (limits_of c.args.settings c.requires.0).count_high)
 
 pub sound_threads-requires : goal.sound_threads-requires
 sound_threads-requires c =
-    let start = c in
-    omega (arith, (limits_of start.args.settings start.requires.0).count_low)
+    omega (arith, (limits_of c.args.settings c.requires.0).count_low)
 
 pub returns-then-not-sound_threads : goal.returns-then-not-sound_threads
 returns-then-not-sound_threads c =
-    let start = c in
-    let a = start.args in
+    let a = c.args in
     let threads = c.sound_threads in
     bad_records a.settings a.used.now a.clock (columns a.exists.now a.ready.now a.partitions.now a.priorities.now a.masks.now a.policies.now a.slices.now) a.queue.now a.history.now
-    start.requires.0 threads.result threads.ensures (not-true threads.result c.if-not-sound_threads.true)
+    c.requires.0 threads.result threads.ensures c.if-not-sound_threads.true
 
 pub returns-then-not-sound_queue : goal.returns-then-not-sound_queue
 returns-then-not-sound_queue c =
-    let start = c in
-    let a = start.args in
+    let a = c.args in
     let queue = c.sound_queue in
     bad_queue a.settings a.used.now a.clock (columns a.exists.now a.ready.now a.partitions.now a.priorities.now a.masks.now a.policies.now a.slices.now) a.queue.now a.history.now
-    start.requires.0 queue.result queue.ensures (not-true queue.result c.if-not-sound_queue.true)
+    c.requires.0 queue.result queue.ensures c.if-not-sound_queue.true
 
 pub twice-most-requires : goal.twice-most-requires
 twice-most-requires c =
-    let start = c in
-    omega (arith, (limits_of start.args.settings start.requires.0).tick_high)
+    omega (arith, (limits_of c.args.settings c.requires.0).tick_high)
 
 pub running_fits-requires : goal.running_fits-requires
 running_fits-requires c =
-    let start = c in
-    (limits_of start.args.settings start.requires.0).core
+    (limits_of c.args.settings c.requires.0).core
 
 pub books_agree-requires : goal.books_agree-requires
 books_agree-requires c =
-    let start = c in
-    let limits = limits_of start.args.settings start.requires.0 in
-    record { held = record { few = limits.count_high; short = limits.window_high; inside = start.requires.1 }; low = omega (arith, limits.tick_high) }
+    let limits = limits_of c.args.settings c.requires.0 in
+    record { held = record { few = limits.count_high; short = limits.window_high; inside = c.requires.1 }; low = omega (arith, limits.tick_high) }
 
 pub returns : goal.returns
 returns c =
-    let queue = c in
-    let threads = queue in
-    let start = threads in
-    let a = start.args in
+    let a = c.args in
     let most = c.twice-most.ensures in
     rw most (last_parts a.settings a.used.now a.clock (columns a.exists.now a.ready.now a.partitions.now a.priorities.now a.masks.now a.policies.now a.slices.now) a.queue.now a.history.now
-    start.requires.0 threads.sound_threads.result queue.sound_queue.result _ _ _
-    threads.sound_threads.ensures (not-false threads.sound_threads.result queue.if-not-sound_threads.false)
-    queue.sound_queue.ensures (not-false queue.sound_queue.result c.if-not-sound_queue.false)
+    c.requires.0 c.sound_threads.result c.sound_queue.result _ _ _
+    c.sound_threads.ensures c.if-not-sound_threads.false
+    c.sound_queue.ensures c.if-not-sound_queue.false
     c.rest_zero.ensures c.running_fits.ensures (rw most at c.books_agree.ensures))

@@ -6,9 +6,9 @@ use Rattle.soundness.proofs.within_limits.Goals as goal
 pub returns-in-Accepted : goal.returns-in-Accepted
 returns-in-Accepted c =
     let limits = c.limits in
-    limits_accepted c.args.settings limits.result c.enum_told.given.1 limits.ensures
+    limits_accepted c.args.settings limits.result c.in-Accepted.is limits.ensures
 
 pub returns-in-Refused : goal.returns-in-Refused
 returns-in-Refused c =
     let limits = c.limits in
-    limits_refused c.args.settings limits.result c.enum-told2.given.0.0 c.enum-told2.given.1 limits.ensures
+    limits_refused c.args.settings limits.result c.in-Refused.field-0 c.in-Refused.is limits.ensures

@@ -11,12 +11,5 @@ loop-t-init c = (omega arith, refl)
 
 pub loop-t-preserved : goal.loop-t-preserved
 loop-t-preserved c =
-    let start = c in
     let turn = c.loop-t in
-    (omega arith, rw (← or_none turn.bits c.difference-bits.result, c.difference-bits.ensures, turn.invariant.1) (all_next (agrees start.args.a.now start.args.b.now) turn.t))
-
-pub returns : goal.returns
-returns c =
-    let start = c in
-    let e : c.loop-t.t ≡ 64 = omega arith in
-    c.loop-t.invariant.1 ∙ ap (λ (n : ℕ). all (agrees start.args.a.now start.args.b.now) (below n)) e
+    (omega arith, rw (← or_none turn.bits c.difference-bits.result, c.difference-bits.ensures, turn.invariant.1) (all_next (agrees c.args.a.now c.args.b.now) turn.t))

@@ -20,10 +20,9 @@ loop-i-init c =
 
 pub loop-i-preserved : goal.loop-i-preserved
 loop-i-preserved c =
-    let start = c in
     let turn = c.loop-i in
-    let q = start.args.queue.now in
-    let here : turn.i < length q = omega (arith, start.requires.0.long, start.requires.0.few) in (
+    let q = c.args.queue.now in
+    let here : turn.i < length q = omega (arith, c.requires.0.long, c.requires.0.few) in (
       omega arith,
       rw length-set turn.invariant.1,
       again_more q turn.i turn.seen here turn.invariant.4 turn.again turn.invariant.2,
@@ -33,9 +32,8 @@ loop-i-preserved c =
 
 pub returns : goal.returns
 returns c =
-    let start = c in
     let turn = c.loop-i in
-    let q = start.args.queue.now in
-    let e : turn.i ≡ start.args.n = omega arith in
+    let q = c.args.queue.now in
+    let e : turn.i ≡ c.args.n = omega arith in
     subst (λ (k : ℕ). SeenOnce (take k q) (eqb turn.again 0 && ltb turn.bits 64) turn.seen) e
     (marked turn.i q turn.seen _ _ turn.invariant.2 turn.invariant.3 turn.invariant.4)

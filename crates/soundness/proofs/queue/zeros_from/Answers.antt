@@ -6,19 +6,14 @@ use Rattle.lists.proofs.Union.{or_none}
 use Rattle.soundness.proofs.Parts.{zero_same}
 use Rattle.soundness.proofs.queue.zeros_from.Goals as goal
 
-pub loop-i-init : goal.loop-i-init
-loop-i-init c = (c.requires.few, refl)
-
 pub loop-i-preserved : goal.loop-i-preserved
 loop-i-preserved c =
-    let start = c in
     let turn = c.loop-i in
-    let q = start.args.queue.now in
+    let q = c.args.queue.now in
     let x = get_or q turn.i 0 in
-    (omega arith, rw (← or_none turn.bits x, zero_same x) (all_drop (eqb 0) q turn.i (eqb turn.bits 0) (omega (arith, start.requires.long)) ∙ turn.invariant.1))
+    (omega arith, rw (← or_none turn.bits x, zero_same x) (all_drop (eqb 0) q turn.i (eqb turn.bits 0) (omega (arith, c.requires.long)) ∙ turn.invariant.1))
 
 pub returns : goal.returns
 returns c =
-    let start = c in
     let turn = c.loop-i in
-    sym (and-true (eqb turn.bits 0)) ∙ (rw (all_past (eqb 0) start.args.queue.now turn.i (omega (arith, start.requires.long))) at turn.invariant.1)
+    sym (and-true (eqb turn.bits 0)) ∙ (rw (all_past (eqb 0) c.args.queue.now turn.i (omega (arith, c.requires.long))) at turn.invariant.1)

@@ -11,18 +11,16 @@ loop-t-init c = (omega arith, rw (lt-ltb 0 c.args.count c.requires))
 
 pub loop-t-preserved : goal.loop-t-preserved
 loop-t-preserved c =
-    let absent = c in
-    let start = absent in
-    let turn = absent.loop-t in
+    let turn = c.loop-t in
     let turned = c.wrong_turn in
     let flagged = c.wrong_flag in
     let existing = c.of_existing in
-    let a = start.args in
+    let a = c.args in
     let ts = columns a.exists.now a.ready.now a.partitions.now a.priorities.now a.masks.now a.policies.now a.slices.now in (
-      omega (arith, absent.loop-t-test.true),
+      omega (arith, c.loop-t-test.true),
       rw (c.larger-most.ensures, c.smaller-least.ensures)
-          (fine_more a.count ts turn.t turn.rest turn.least turn.most absent.of_absent.result existing.result turned.result flagged.result
-          start.requires absent.of_absent.ensures existing.ensures turned.ensures flagged.ensures
+          (fine_more a.count ts turn.t turn.rest turn.least turn.most c.of_absent.result existing.result turned.result flagged.result
+          c.requires c.of_absent.ensures existing.ensures turned.ensures flagged.ensures
           ∙ rw turn.invariant.1 (all_next (fine a.count ts) turn.t)),
     )
 

@@ -12,31 +12,27 @@ use Rattle.soundness.proofs.sums.add_row.Invariants.{small}
 pub loop-k-init : goal.loop-k-init
 unfolding all below
 loop-k-init c =
-    let start = c in
-    (omega arith, refl, refl, added_none (λ i. get_or start.args.row.now i 0) start.args.sums.now)
+    (omega arith, refl, refl, added_none (λ i. get_or c.args.row.now i 0) c.args.sums.now)
 
 pub loop-k-preserved : goal.loop-k-preserved
 loop-k-preserved c =
-    let call = c in
-    let start = call in
-    let turn = call.loop-k in
-    let l = start.args.row.now in
-    let here : turn.k < length l = omega (arith, call.loop-k-test.true) in (
+    let turn = c.loop-k in
+    let l = c.args.row.now in
+    let here : turn.k < length l = omega (arith, c.loop-k-test.true) in (
       omega (arith, here),
       rw (← or_below 22 turn.bits (get_or l turn.k 0), turn.invariant.1) (all_next (small l) turn.k),
-      sum_wraps l turn.k turn.sum call.wrapping_add_u32-sum.result here turn.invariant.2 call.wrapping_add_u32-sum.ensures,
-      added_more (λ i. get_or l i 0) start.args.sums.now turn.sums turn.k c.wrapping_add_u32.result (omega (arith, turn.invariant.3.long, start.requires.0, start.requires.1)) c.wrapping_add_u32.ensures turn.invariant.3,
+      sum_wraps l turn.k turn.sum c.wrapping_add_u32-sum.result here turn.invariant.2 c.wrapping_add_u32-sum.ensures.value,
+      added_more (λ i. get_or l i 0) c.args.sums.now turn.sums turn.k c.wrapping_add_u32.result (omega (arith, turn.invariant.3.long, c.requires.0, c.requires.1)) c.wrapping_add_u32.ensures.value turn.invariant.3,
     )
 
 pub returns : goal.returns
 unfolding all_narrow
 returns c =
-    let start = c in
     let turn = c.loop-k in
-    let l = start.args.row.now in
+    let l = c.args.row.now in
     let e : turn.k ≡ length l = omega arith in
     record {
       narrow = turn.invariant.1 ∙ ap (λ (n : ℕ). all (small l) (below n)) e;
       total = turn.invariant.2 ∙ ap (λ (x : List ℕ). Lists.sum x % 2 ^ 32) (ap (λ (n : ℕ). take n l) e ∙ take-length l);
-      slots = subst (λ (n : ℕ). Added (λ i. get_or l i 0) start.args.sums.now turn.sums n) e turn.invariant.3;
+      slots = subst (λ (n : ℕ). Added (λ i. get_or l i 0) c.args.sums.now turn.sums n) e turn.invariant.3;
     }

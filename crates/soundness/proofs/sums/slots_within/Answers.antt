@@ -10,12 +10,5 @@ loop-k-init c = (omega arith, refl)
 
 pub loop-k-preserved : goal.loop-k-preserved
 loop-k-preserved c =
-    let start = c in
     let turn = c.loop-k in
-    (omega arith, rw turn.invariant.1 (all_next (within start.args.sums.now start.args.most.0) turn.k))
-
-pub returns : goal.returns
-returns c =
-    let start = c in
-    let e : c.loop-k.k ≡ start.args.size = omega arith in
-    c.loop-k.invariant.1 ∙ ap (λ (n : ℕ). all (within start.args.sums.now start.args.most.0) (below n)) e
+    (omega arith, rw turn.invariant.1 (all_next (within c.args.sums.now c.args.most.0) turn.k))

@@ -10,12 +10,5 @@ loop-p-init c = (omega arith, refl)
 
 pub loop-p-preserved : goal.loop-p-preserved
 loop-p-preserved c =
-    let start = c in
     let turn = c.loop-p in
-    (omega arith, rw turn.invariant.1 (all_next (agrees start.args.rows.now start.args.totals.now) turn.p))
-
-pub returns : goal.returns
-returns c =
-    let start = c in
-    let e : c.loop-p.p ≡ start.args.count = omega arith in
-    c.loop-p.invariant.1 ∙ ap (λ (n : ℕ). all (agrees start.args.rows.now start.args.totals.now) (below n)) e
+    (omega arith, rw turn.invariant.1 (all_next (agrees c.args.rows.now c.args.totals.now) turn.p))
