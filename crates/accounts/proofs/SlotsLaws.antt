@@ -3,7 +3,7 @@ use mathlib.Core.Path.{◌≡◌, refl, sym, ap, ◌∙◌}
 use Prim.Native.Nat.{ℕ, zero, suc, ◌+◌, ◌-◌, ◌*◌, ◌≤◌, ◌<◌}
 use mathlib.Core.List.{List, map}
 use native.Mathlib.Omega.{arith}
-use lib.ListN.{length, get_or, set, length-set}
+use lib.ListN.{get_or, set}
 use lib.Seq.{get_or-set_other}
 use Rattle.model.specs.State.{cycles}
 use Rattle.lists.proofs.Parts.{row_end}
@@ -25,11 +25,6 @@ module _ (w k : ℕ) (h : List ℕ) where
   later_place (suc n) p b c =
       get_or-set_other (clear_history w k n h) (n * w + k) (p * w + k) 0 0 (λ e. let z : ⊥ = omega (arith, row_end n p w c) in absurd z)
       ∙ later_place n p b (omega arith)
-
-  pub clear_length : (n : ℕ) → length (clear_history w k n h) ≡ length h
-  unfolding clear_history
-  clear_length zero = refl
-  clear_length (suc n) = length-set (clear_history w k n h) (n * w + k) 0 ∙ clear_length n
 
   -- the totals that the lowered numbers stand for
   pub lowered_totals : (n : ℕ) (u : List ℕ) → map cycles (lowered w k n u h) ≡ lower_used w k n (map cycles u) h

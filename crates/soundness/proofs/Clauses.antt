@@ -34,16 +34,6 @@ of_existing e x g small fits h b = go (ℕ_discrete e 1)
     go (yes y) = let k : g ≡ 0 = omega arith in rw (eq-eqb e 1 y, k) (or_zero_r x)
     go (no y) = let k : g ≡ 255 = omega arith in rw (ne_eqb e 1 y, k) (full x small)
 
--- ---- a flag
-
--- all bits but the lowest
-pub wrong_flag : (x : ℕ) → x < 256 → WrongFlag x (bit_and x 254)
-wrong_flag x small = rw (and_high x 7 1, shr_mod 7 1 small) (go (dec_lt x 2))
-  where
-    go : Dec (x < 2) → eqb (x / 2 * 2) 0 ≡ ltb x 2
-    go (yes p) = rw (eq-eqb (x / 2 * 2) 0 (omega arith), lt-ltb x 2 p)
-    go (no p) = rw (ne_eqb (x / 2 * 2) 0 (λ v. omega arith), le-ltb x 2 (omega arith))
-
 -- ---- a slice: x is the slice less the policy, and g the policy less 1
 
 -- all bits but the lowest two

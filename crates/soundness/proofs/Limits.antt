@@ -1,5 +1,5 @@
 -- The test of the settings, and the number by which a state is refused.
-use Rattle.std.proofs.Common.{◌≡◌, ℕ, ◌*◌, ◌<◌, ◌≤◌, Bool, true, false, List, length, sym, refl, ap, ◌∙◌, mul-le-mul_right, arith, le-ltb, lt-ltb}
+use Rattle.std.proofs.Common.{◌≡◌, ℕ, ◌*◌, ◌<◌, ◌≤◌, Bool, true, false, List, length, sym, refl, ap, ◌∙◌, arith, le-ltb, lt-ltb}
 use Rattle.refusals.specs.Refusals.{outcome_of}
 use Rattle.refusals.specs.declared.Refusal.{Refusal}
 use Rattle.refusals.specs.declared.Outcome.{Outcome}
@@ -7,7 +7,7 @@ use Rattle.refusals.specs.declared.Outcome.TheVariants.{Accepted, Refused}
 use Rattle.refusals.proofs.Laws.{same_number}
 use Rattle.sheet.specs.Settings.{W, within_limits, refused_settings}
 use Rattle.sheet.specs.declared.Settings.{Settings}
-use Rattle.sheet.proofs.Within.{not_refused, within_limits_law, limits_of}
+use Rattle.sheet.proofs.Within.{not_refused, within_limits_law}
 use Rattle.model.specs.Arrays.{Columns}
 use Rattle.model.specs.declared.Clock.{Clock}
 use Rattle.model.specs.Lent.{refused_arrays}
@@ -46,7 +46,3 @@ module _ (c : Settings) (u : List ℕ) (k : Clock) (ts : Columns) (q h : List �
     pub refused_unsound : (b : Bool) → c.count * W c ≤ length h → b ≡ sound_in c u k ts q h → b ≡ false → 8 ≡ refused_arrays c u k ts q h
     unfolding refused_arrays
     refused_unsound b x y z = rw (within, le-ltb (length h) (c.count * W c) x, sym y ∙ z)
-
--- the numbers wanted fit
-pub wanted_few : (c : Settings) → within_limits c ≡ true → c.count * W c ≤ 6400
-wanted_few c e = omega (arith, mul-le-mul_right (W c) (limits_of c e).count_high, (limits_of c e).window_high)

@@ -1,5 +1,5 @@
 -- How the answers of the passes make up the test of the ready queue.
-use Rattle.std.proofs.Common.{◌≡◌, ℕ, ◌+◌, ◌%◌, ◌^◌, ◌<◌, Bool, true, false, ◌&&◌, eqb, leb, List, get_or, take, drop, sym, refl, ap, ◌∙◌, arith, eq-eqb, ne_eqb}
+use Rattle.std.proofs.Common.{◌≡◌, ℕ, Bool, true, false, ◌&&◌, eqb, leb, List, get_or, take, drop, sym, refl, ap, ◌∙◌, eq-eqb, ne_eqb}
 use native.Mathlib.Decide.{ℕ_discrete}
 use Rattle.lists.specs.Lists.{below, all, member}
 use Rattle.lists.proofs.Every.{all_same}
@@ -12,14 +12,6 @@ zero_same x = go (ℕ_discrete x 0)
     go : Dec (x ≡ 0) → eqb x 0 ≡ eqb 0 x
     go (yes e) = rw (eq-eqb x 0 e, eq-eqb 0 x (sym e))
     go (no e) = rw (ne_eqb x 0 e, ne_eqb 0 x (λ z. e (sym z)))
-
--- a byte's difference from another, which wraps
-pub no_difference : (x y v : ℕ) → y < 256 → v < 256 → (v + y) % 2 ^ 8 ≡ x → eqb v 0 ≡ eqb x y
-no_difference x y v fits small h = go (ℕ_discrete v 0)
-  where
-    go : Dec (v ≡ 0) → eqb v 0 ≡ eqb x y
-    go (yes e) = rw (eq-eqb v 0 e, eq-eqb x y (omega arith))
-    go (no e) = rw (ne_eqb v 0 e, ne_eqb x y (λ z. omega arith))
 
 pub queue_long : (r q : List ℕ) (n : ℕ) → leb n 64 ≡ false → false ≡ holds_ready r q n
 unfolding holds_ready

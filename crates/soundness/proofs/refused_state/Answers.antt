@@ -1,8 +1,7 @@
 -- `refused_state` is the number by which a state is refused.
-use Rattle.std.proofs.Common.{◌≡◌, true, sym, ◌∙◌, arith, rules}
-use Rattle.sheet.specs.Settings.{within_limits}
+use Rattle.std.proofs.Common.{sym, ◌∙◌, arith}
 use Rattle.model.specs.Arrays.{columns}
-use Rattle.soundness.proofs.Limits.{refused_settings_law, refused_short, refused_sound, refused_unsound, wanted_few}
+use Rattle.soundness.proofs.Limits.{refused_settings_law, refused_short, refused_sound, refused_unsound}
 use Rattle.soundness.proofs.refused_state.Goals as goal
 
 pub returns-then-not-within_limits : goal.returns-then-not-within_limits

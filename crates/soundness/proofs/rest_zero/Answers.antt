@@ -1,8 +1,7 @@
-use Rattle.std.proofs.Common.{◌≡◌, ℕ, ◌-◌, ◌≤◌, Bool, ◌&&◌, ◌||◌, eqb, ltb, List, get_or, refl, ap, ◌∙◌, arith, rules}
+use Rattle.std.proofs.Common.{◌≡◌, ℕ, get_or, refl, ap, ◌∙◌, arith}
 use Rattle.lists.specs.Lists.{all, below}
 use Rattle.lists.proofs.Loops.{all_next}
 use Rattle.sheet.specs.Settings.{share}
-use Rattle.sheet.specs.declared.Settings.{Settings}
 use Rattle.soundness.specs.Refused.{rest_zero}
 use Rattle.soundness.proofs.Whole.{none_past}
 use Rattle.soundness.proofs.rest_zero.Goals as goal

@@ -1,11 +1,8 @@
 -- `rest_zero` tests what lies past the last partition.
-use Rattle.std.proofs.Common.{◌≡◌, ℕ, ◌-◌, ◌≤◌, Bool, ◌&&◌, ◌||◌, eqb, ltb, List, get_or, refl, ap, ◌∙◌, arith, rules}
+use Rattle.std.proofs.Common.{◌≡◌, ℕ, ◌-◌, ◌≤◌, Bool, ◌&&◌, ◌||◌, eqb, ltb, List, get_or}
 use Rattle.lists.specs.Lists.{all, below}
-use Rattle.lists.proofs.Loops.{all_next}
 use Rattle.sheet.specs.Settings.{share}
 use Rattle.sheet.specs.declared.Settings.{Settings}
-use Rattle.soundness.specs.Refused.{rest_zero}
-use Rattle.soundness.proofs.Whole.{none_past}
 use Rattle.soundness.proofs.rest_zero.Given as goal
 
 abbrev pub none : Settings → List ℕ → ℕ → Bool

@@ -1,5 +1,5 @@
 -- `running_fits` is the test of the running thread.
-use Rattle.std.proofs.Common.{arith, rules}
+use Rattle.std.proofs.Common.{arith}
 use Rattle.soundness.proofs.Whole.{runs_idle, runs_outside, runs_inside}
 use Rattle.soundness.proofs.running_fits.Goals as goal
 

@@ -1,5 +1,5 @@
 -- `sound` is the model's soundness with flags of 0 and 1, for settings within their limits and a history long enough.
-use Rattle.std.proofs.Common.{arith, rules}
+use Rattle.std.proofs.Common.{arith}
 use Rattle.sheet.proofs.Within.{limits_of}
 use Rattle.model.specs.Arrays.{columns}
 use Rattle.soundness.proofs.Whole.{bad_records, bad_queue, last_parts}

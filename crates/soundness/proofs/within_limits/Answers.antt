@@ -1,6 +1,5 @@
 -- `within_limits` is the test of the settings.
 use Rattle.soundness.proofs.Limits.{limits_accepted, limits_refused}
-use Rattle.std.proofs.Common.{rules}
 use Rattle.soundness.proofs.within_limits.Goals as goal
 
 pub returns-in-Accepted : goal.returns-in-Accepted

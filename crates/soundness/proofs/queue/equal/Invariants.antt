@@ -1,8 +1,6 @@
 -- `equal` compares every flag.
-use Rattle.std.proofs.Common.{◌≡◌, ℕ, ◌-◌, ◌≤◌, Bool, eqb, List, get_or, refl, ap, ◌∙◌, arith, rules}
+use Rattle.std.proofs.Common.{◌≡◌, ℕ, ◌-◌, ◌≤◌, Bool, eqb, List, get_or}
 use Rattle.lists.specs.Lists.{all, below}
-use Rattle.lists.proofs.Loops.{all_next}
-use Rattle.lists.proofs.Union.{or_none}
 use Rattle.soundness.proofs.queue.equal.Given as goal
 
 abbrev pub agrees : List ℕ → List ℕ → ℕ → Bool

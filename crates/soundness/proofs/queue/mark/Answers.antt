@@ -1,4 +1,4 @@
-use Rattle.std.proofs.Common.{◌≡◌, ℕ, ◌-◌, ◌<◌, ◌≤◌, ◌&&◌, eqb, ltb, List, length, get_or, take, sym, refl, subst, arith, length-set, rules}
+use Rattle.std.proofs.Common.{◌≡◌, ℕ, ◌<◌, ◌&&◌, eqb, ltb, List, length, get_or, take, sym, refl, subst, arith, length-set}
 use Rattle.lists.specs.Lists.{all, distinct}
 use Rattle.lists.proofs.Loops.{all_take}
 use Rattle.lists.proofs.Union.{or_below}

@@ -1,10 +1,8 @@
 -- `mark` marks the first entries.
-use Rattle.std.proofs.Common.{◌≡◌, ℕ, ◌-◌, ◌<◌, ◌≤◌, ◌&&◌, eqb, ltb, List, length, get_or, take, sym, refl, subst, arith, length-set, rules}
+use Rattle.std.proofs.Common.{◌≡◌, ◌-◌, ◌≤◌, eqb, ltb, length, take}
 use Rattle.lists.specs.Lists.{all, distinct}
-use Rattle.lists.proofs.Loops.{all_take}
-use Rattle.lists.proofs.Union.{or_below}
-use Rattle.soundness.specs.Queue.{Seen, SeenOnce}
-use Rattle.soundness.proofs.Marking.{rests, seen_none, again_more, seen_more, marked}
+use Rattle.soundness.specs.Queue.{Seen}
+use Rattle.soundness.proofs.Marking.{rests}
 use Rattle.soundness.proofs.queue.mark.Given as goal
 
 abbrev pub invariant-loop-i : goal.invariant-loop-i

@@ -1,6 +1,5 @@
-use Rattle.std.proofs.Common.{◌≡◌, ◌-◌, ◌≤◌, ◌&&◌, eqb, get_or, drop, sym, refl, ◌∙◌, arith, rules}
+use Rattle.std.proofs.Common.{eqb, get_or, sym, ◌∙◌, arith}
 use mathlib.Core.Bool.{and-true}
-use Rattle.lists.specs.Lists.{all}
 use Rattle.lists.proofs.Loops.{all_drop, all_past}
 use Rattle.lists.proofs.Union.{or_none}
 use Rattle.soundness.proofs.Parts.{zero_same}

@@ -1,10 +1,6 @@
 -- `zeros_from` tests the entries from n on.
-use Rattle.std.proofs.Common.{◌≡◌, ◌-◌, ◌≤◌, ◌&&◌, eqb, get_or, drop, sym, refl, ◌∙◌, arith, rules}
-use mathlib.Core.Bool.{and-true}
+use Rattle.std.proofs.Common.{◌≡◌, ◌-◌, ◌≤◌, ◌&&◌, eqb, drop}
 use Rattle.lists.specs.Lists.{all}
-use Rattle.lists.proofs.Loops.{all_drop, all_past}
-use Rattle.lists.proofs.Union.{or_none}
-use Rattle.soundness.proofs.Parts.{zero_same}
 use Rattle.soundness.proofs.queue.zeros_from.Given as goal
 
 abbrev pub invariant-loop-i : goal.invariant-loop-i

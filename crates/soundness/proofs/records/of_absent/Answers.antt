@@ -1,5 +1,5 @@
 -- `of_absent` gives a byte of a thread that does not exist.
-use Rattle.std.proofs.Common.{arith, rules}
+use Rattle.std.proofs.Common.{arith}
 use Rattle.soundness.proofs.Clauses.{of_absent}
 use Rattle.soundness.proofs.records.of_absent.Goals as goal
 

@@ -1,5 +1,5 @@
 -- `of_existing` gives a byte of a thread that exists.
-use Rattle.std.proofs.Common.{arith, rules}
+use Rattle.std.proofs.Common.{arith}
 use Rattle.soundness.proofs.Clauses.{of_existing}
 use Rattle.soundness.proofs.records.of_existing.Goals as goal
 

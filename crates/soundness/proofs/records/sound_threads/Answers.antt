@@ -1,8 +1,8 @@
-use Rattle.std.proofs.Common.{◌≡◌, ℕ, ◌-◌, ◌≤◌, ap, ◌∙◌, arith, rules, lt-ltb}
+use Rattle.std.proofs.Common.{◌≡◌, ℕ, ap, ◌∙◌, arith, lt-ltb}
 use Rattle.lists.specs.Lists.{all, below}
 use Rattle.lists.proofs.Loops.{all_next}
 use Rattle.model.specs.Arrays.{columns}
-use Rattle.soundness.proofs.Clauses.{answer, fine, fine_more, fine_all}
+use Rattle.soundness.proofs.Clauses.{fine, fine_more, fine_all}
 use Rattle.soundness.proofs.records.sound_threads.Goals as goal
 
 pub loop-t-init : goal.loop-t-init

@@ -1,9 +1,8 @@
 -- `sound_threads` tests every thread's numbers.
-use Rattle.std.proofs.Common.{◌≡◌, ℕ, ◌-◌, ◌≤◌, ap, ◌∙◌, arith, rules, lt-ltb}
+use Rattle.std.proofs.Common.{◌≡◌, ◌-◌, ◌≤◌}
 use Rattle.lists.specs.Lists.{all, below}
-use Rattle.lists.proofs.Loops.{all_next}
 use Rattle.model.specs.Arrays.{columns}
-use Rattle.soundness.proofs.Clauses.{answer, fine, fine_more, fine_all}
+use Rattle.soundness.proofs.Clauses.{answer, fine}
 use Rattle.soundness.proofs.records.sound_threads.Given as goal
 
 abbrev pub invariant-loop-t : goal.invariant-loop-t

@@ -1,5 +1,5 @@
 -- `wrong_slice` gives 0 for a slice that the policy allows.
-use Rattle.std.proofs.Common.{arith, rules}
+use Rattle.std.proofs.Common.{arith}
 use Rattle.soundness.proofs.Clauses.{wrong_slice}
 use Rattle.soundness.proofs.records.wrong_slice.Goals as goal
 

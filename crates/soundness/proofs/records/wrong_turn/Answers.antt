@@ -1,5 +1,4 @@
 -- `wrong_turn` gives 0 for a policy and a slice that the thread may have.
-use Rattle.std.proofs.Common.{rules}
 use Rattle.soundness.proofs.Clauses.{wrong_turn}
 use Rattle.soundness.proofs.records.wrong_turn.Goals as goal
 

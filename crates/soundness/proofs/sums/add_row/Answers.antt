@@ -1,4 +1,4 @@
-use Rattle.std.proofs.Common.{◌≡◌, ℕ, ◌-◌, ◌%◌, ◌^◌, ◌<◌, ◌≤◌, Bool, ltb, List, length, get_or, take, refl, ap, ◌∙◌, subst, arith, rules}
+use Rattle.std.proofs.Common.{◌≡◌, ℕ, ◌%◌, ◌^◌, ◌<◌, List, length, get_or, take, refl, ap, ◌∙◌, subst, arith}
 use lib.Seq.{take-length}
 use Rattle.lists.specs.Lists
 use Rattle.lists.specs.Lists.{all, below}

@@ -1,12 +1,8 @@
 -- `add_row` adds the numbers of a part of a row up, and each to its slot.
-use Rattle.std.proofs.Common.{◌≡◌, ℕ, ◌-◌, ◌%◌, ◌^◌, ◌<◌, ◌≤◌, Bool, ltb, List, length, get_or, take, refl, ap, ◌∙◌, subst, arith, rules}
-use lib.Seq.{take-length}
+use Rattle.std.proofs.Common.{◌≡◌, ℕ, ◌-◌, ◌%◌, ◌^◌, ◌≤◌, Bool, ltb, List, length, get_or, take}
 use Rattle.lists.specs.Lists
 use Rattle.lists.specs.Lists.{all, below}
-use Rattle.lists.proofs.Loops.{all_next}
-use Rattle.lists.proofs.Union.{or_below}
-use Rattle.soundness.specs.Sums.{all_narrow, Added}
-use Rattle.soundness.proofs.Passes.{sum_wraps, added_none, added_more}
+use Rattle.soundness.specs.Sums.{Added}
 use Rattle.soundness.proofs.sums.add_row.Given as goal
 
 abbrev pub small : List ℕ → ℕ → Bool

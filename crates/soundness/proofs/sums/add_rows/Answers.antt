@@ -1,11 +1,10 @@
-use Rattle.std.proofs.Common.{◌≡◌, ℕ, ◌+◌, ◌-◌, ◌*◌, ◌≤◌, Bool, List, length, sym, refl, ap, ◌∙◌, subst, arith, rules}
-use Rattle.lists.specs.Lists
+use Rattle.std.proofs.Common.{ℕ, ◌+◌, ◌*◌, List, sym, refl, subst, arith}
 use Rattle.lists.specs.Lists.{all, below}
 use Rattle.lists.proofs.Loops.{all_next}
 use Rattle.lists.proofs.Parts.{part_row}
-use Rattle.soundness.specs.Sums.{slot_in, all_narrow, part_in, Added, RowAdded}
+use Rattle.soundness.specs.Sums.{slot_in, Added, RowAdded}
 use Rattle.soundness.proofs.Passes.{added_none, added_zeros, added_more}
-use Rattle.soundness.proofs.Rows.{place_in, part_length, slots_more}
+use Rattle.soundness.proofs.Rows.{slots_more}
 use Rattle.soundness.proofs.sums.add_rows.Goals as goal
 use Rattle.soundness.proofs.sums.add_rows.Invariants.{small, held}
 

@@ -1,12 +1,8 @@
 -- `add_rows` adds the parts of the rows to the rows' sums and to the slots'.
-use Rattle.std.proofs.Common.{◌≡◌, ℕ, ◌+◌, ◌-◌, ◌*◌, ◌≤◌, Bool, List, length, sym, refl, ap, ◌∙◌, subst, arith, rules}
+use Rattle.std.proofs.Common.{◌≡◌, ℕ, ◌+◌, ◌-◌, ◌≤◌, Bool, List}
 use Rattle.lists.specs.Lists
 use Rattle.lists.specs.Lists.{all, below}
-use Rattle.lists.proofs.Loops.{all_next}
-use Rattle.lists.proofs.Parts.{part_row}
-use Rattle.soundness.specs.Sums.{slot_in, all_narrow, part_in, Added, RowAdded}
-use Rattle.soundness.proofs.Passes.{added_none, added_zeros, added_more}
-use Rattle.soundness.proofs.Rows.{place_in, part_length, slots_more}
+use Rattle.soundness.specs.Sums.{slot_in, all_narrow, part_in, Added}
 use Rattle.soundness.proofs.sums.add_rows.Given as goal
 
 abbrev pub small : List ℕ → ℕ → ℕ → ℕ → ℕ → Bool

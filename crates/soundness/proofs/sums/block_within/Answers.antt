@@ -1,5 +1,4 @@
 -- `block_within` tests the slots of a block.
-use Rattle.std.proofs.Common.{rules}
 use Rattle.soundness.proofs.Books.{block_exact}
 use Rattle.soundness.proofs.sums.block_within.Goals as goal
 

@@ -1,6 +1,6 @@
-use Rattle.std.proofs.Common.{◌≡◌, ℕ, ◌-◌, ◌≤◌, Bool, leb, List, replicate, refl, ap, ◌∙◌, subst, arith, rules}
+use Rattle.std.proofs.Common.{◌≡◌, ℕ, replicate, refl, ap, ◌∙◌, subst, arith}
 use Rattle.lists.specs.Lists.{all, below}
-use Rattle.soundness.specs.Sums.{slot_in, Added}
+use Rattle.soundness.specs.Sums.{Added}
 use Rattle.soundness.proofs.Books.{slot_outside, all_below_more, rows_to, rows_none, rows_next, books_parts}
 use Rattle.soundness.proofs.sums.books_agree.Goals as goal
 use Rattle.soundness.proofs.sums.books_agree.Invariants.{fits}

@@ -1,8 +1,8 @@
 -- `books_agree` is the test of the books.
-use Rattle.std.proofs.Common.{◌≡◌, ℕ, ◌-◌, ◌≤◌, Bool, leb, List, replicate, refl, ap, ◌∙◌, subst, arith, rules}
+use Rattle.std.proofs.Common.{◌≡◌, ℕ, ◌-◌, ◌≤◌, Bool, leb, List, replicate}
 use Rattle.lists.specs.Lists.{all, below}
 use Rattle.soundness.specs.Sums.{slot_in, Added}
-use Rattle.soundness.proofs.Books.{slot_outside, all_below_more, rows_to, rows_none, rows_next, books_parts}
+use Rattle.soundness.proofs.Books.{rows_to}
 use Rattle.soundness.proofs.sums.books_agree.Given as goal
 
 abbrev pub fits : List ℕ → ℕ → ℕ → ℕ → ℕ → Bool

@@ -1,9 +1,6 @@
 -- `slot_sum` adds up what the rows hold in a slot.
-use Rattle.std.proofs.Common.{◌≡◌, ℕ, ◌+◌, ◌-◌, ◌*◌, ◌%◌, ◌^◌, ◌<◌, ◌≤◌, length, get_or, refl, ap, ◌∙◌, arith, rules}
-use Rattle.lists.proofs.Loops.{total_more}
-use Rattle.lists.proofs.Parts.{in_rows}
+use Rattle.std.proofs.Common.{◌≡◌, ◌-◌, ◌%◌, ◌^◌, ◌≤◌}
 use Rattle.soundness.specs.Sums.{slot_in}
-use Rattle.soundness.proofs.Rows.{place_in}
 use Rattle.soundness.proofs.sums.slot_sum.Given as goal
 
 abbrev pub invariant-loop-p : goal.invariant-loop-p

@@ -1,7 +1,6 @@
 -- `slots_within` tests the slots' sums.
-use Rattle.std.proofs.Common.{◌≡◌, ℕ, ◌-◌, ◌≤◌, Bool, leb, List, get_or, refl, ap, ◌∙◌, arith, rules}
+use Rattle.std.proofs.Common.{◌≡◌, ℕ, ◌-◌, ◌≤◌, Bool, leb, List, get_or}
 use Rattle.lists.specs.Lists.{all, below}
-use Rattle.lists.proofs.Loops.{all_next}
 use Rattle.soundness.proofs.sums.slots_within.Given as goal
 
 abbrev pub within : List ℕ → ℕ → ℕ → Bool

@@ -1,7 +1,6 @@
 -- `totals_agree` compares every total with its row's sum.
-use Rattle.std.proofs.Common.{◌≡◌, ℕ, ◌-◌, ◌≤◌, Bool, eqb, List, get_or, refl, ap, ◌∙◌, arith, rules}
+use Rattle.std.proofs.Common.{◌≡◌, ℕ, ◌-◌, ◌≤◌, Bool, eqb, List, get_or}
 use Rattle.lists.specs.Lists.{all, below}
-use Rattle.lists.proofs.Loops.{all_next}
 use Rattle.soundness.proofs.sums.totals_agree.Given as goal
 
 abbrev pub agrees : List ℕ → List ℕ → ℕ → Bool
