@@ -3,34 +3,38 @@
 // kept for the next one, and only the end of the input makes it a cut event.
 #![tactic(auto)]
 
-ghost use Rattle.std.specs.Prelude.{◌+◌, ◌≤◌, ◌<◌, length};
-ghost use Rattle.io.specs.Counts.{IsPrefixLen};
+ghost use Rattle.std.specs.Prelude.{◌≡◌, ◌+◌, ◌≤◌, ◌<◌, length, take};
 
-use libc::{STDIN_FILENO, STDOUT_FILENO};
 use model::Verdict;
 use refusals::Outcome;
 use scheduler::batch;
+use std::fs;
+use std::io::{Read, Write};
+use std::rt::Files;
+
+// What one call reads and writes at most.
+const BUFFER: usize = 65536;
 
 // The sheet's bytes at the start of the buffer, and how many there are: none where the file is missing or cannot be read.
-fn read_sheet(buffer: &mut [u8]) -> usize
-    ensures { IsPrefixLen result buffer.new }
+fn read_sheet(files: &impl Files, buffer: &mut [u8]) -> usize
+    ensures { (result ≤ length buffer.new) × (result ≡ length (take result buffer.new)) }
 {
-    let fd = os::open_read(b"shares.txt");
-    if fd < 0 {
-        return 0;
+    match fs::open(files, "shares.txt") {
+        Ok(mut file) => streams::read_full(&mut file, buffer),
+        Err(_) => 0,
     }
-    let n = io::read_full(fd, buffer);
-    libc::close(fd);
-    n
 }
 
-// Reads once, behind the bytes that are there already, and answers how many there are then. No more than before: the input has ended.
-fn read_more(events: &mut [u8], kept: usize) -> usize
+// Reads once, behind the bytes that are there already, and answers how many there are then. No more than before: the input has ended, or cannot be
+// read.
+fn read_more(input: &mut impl Read, events: &mut [u8], kept: usize) -> usize
     requires { kept ≤ length events.old }
     ensures { (kept ≤ result) × (result ≤ length events.new) }
 {
-    let got = libc::read(STDIN_FILENO, &mut events[kept..]);
-    kept + io::count(got, &events[kept..])
+    match input.read(&mut events[kept..]) {
+        Ok(n) => kept + n,
+        Err(_) => kept,
+    }
 }
 
 // The n bytes from a place on become the first.
@@ -47,6 +51,7 @@ fn keep(events: &mut [u8], from: usize, n: usize)
 
 // The events are answered, and their lines printed. False: they cannot be printed.
 fn answer(
+    output: &mut impl Write,
     settings: &[u32; 7],
     shares: &[u32; 16],
     used: &mut [u32; 16],
@@ -70,7 +75,7 @@ fn answer(
         settings, shares, used, clock, exists, ready, partitions, priorities, masks, policies,
         slices, queue, history, events, out,
     );
-    io::write_all(STDOUT_FILENO, &out[..written])
+    output.write_all(&out[..written]).is_ok()
 }
 
 // What a turn of the reading loop leaves: whether there may be more to read, and how many bytes of a cut record are kept.
@@ -82,6 +87,8 @@ struct Turn {
 
 // Reads once and answers the whole records; at the end of the input, what is left of a cut one.
 fn serve_once(
+    input: &mut impl Read,
+    output: &mut impl Write,
     settings: &[u32; 7],
     shares: &[u32; 16],
     used: &mut [u32; 16],
@@ -102,9 +109,10 @@ fn serve_once(
     requires { (kept < 12) × (12 ≤ length events.old) }
     ensures { result.kept < 12 }
 {
-    let n = read_more(events, kept);
+    let n = read_more(input, events, kept);
     if n == kept {
         answer(
+            output,
             settings,
             shares,
             used,
@@ -129,6 +137,7 @@ fn serve_once(
     let rest = n % 12;
     let whole = n - rest;
     let printed = answer(
+        output,
         settings,
         shares,
         used,
@@ -154,6 +163,8 @@ fn serve_once(
 
 // Turn after turn, until the input ends or the output can no longer be written.
 fn serve(
+    input: &mut impl Read,
+    output: &mut impl Write,
     settings: &[u32; 7],
     shares: &[u32; 16],
     used: &mut [u32; 16],
@@ -173,24 +184,22 @@ fn serve(
     requires { 12 ≤ length events.old }
 {
     let mut kept: usize = 0;
-    let mut turns = u64::MAX;
-    while 0 < turns {
+    for _ in 0..u64::MAX {
         let turn = serve_once(
-            settings, shares, used, clock, exists, ready, partitions, priorities, masks, policies,
-            slices, queue, history, events, out, kept,
+            input, output, settings, shares, used, clock, exists, ready, partitions, priorities,
+            masks, policies, slices, queue, history, events, out, kept,
         );
         if !turn.more {
             return;
         }
         kept = turn.kept;
-        turns -= 1;
     }
 }
 
-fn main() {
+fn main(rt: HostRuntime) {
     // One record more than a sheet may have, so that a longer file is refused as it stands.
     let mut sheet = [0u8; 264];
-    let n = read_sheet(&mut sheet);
+    let n = read_sheet(&rt, &mut sheet);
     // The state, and room for the largest history: 16 partitions and 400 ticks.
     let mut settings = [0u32; 7];
     let mut shares = [0u32; 16];
@@ -224,12 +233,14 @@ fn main() {
     match outcome {
         Outcome::Refused(refusal) => {
             let line = lines::line(Verdict::Refused(refusal));
-            io::write_all(STDOUT_FILENO, &line);
+            let _ = rt.stdout().write_all(&line);
         }
         Outcome::Accepted => {
-            let mut events = io::large_buffer();
-            let mut out = io::large_buffer();
+            let mut events = [0u8; BUFFER];
+            let mut out = [0u8; BUFFER];
             serve(
+                &mut rt.stdin(),
+                &mut rt.stdout(),
                 &settings,
                 &shares,
                 &mut used,
