@@ -39,9 +39,9 @@ module _ (x : Lent) where
   unfolding answer_to
   answer_yes b z = rw z
 
-  answer-no : (b : List ℕ) (o : Refusal) → refused_in x ≡ number_of o → answer_to x b ≡ record { refusal = number_of o; decision = nothing; after = saved_in x }
+  answer_no : (b : List ℕ) (o : Refusal) → refused_in x ≡ number_of o → answer_to x b ≡ record { refusal = number_of o; decision = nothing; after = saved_in x }
   unfolding answer_to
-  answer-no b o z = rw (z, never_zero o)
+  answer_no b o z = rw (z, never_zero o)
 
 -- ---- a door that read c and k from x
 
@@ -62,8 +62,8 @@ module _ (x : Lent) (c : Settings) (k : Clock) (ec : c ≡ lent_settings x) (ek 
   answered_no sizes b o r f i =
       let z : refused_in x ≡ number_of r = sym (number o i) ∙ ap outcome_of f in
       record {
-        line = sym (ap answer_line (answer-no x b r z));
-        after = sym (ap (λ (y : Answer). y.after) (answer-no x b r z));
+        line = sym (ap answer_line (answer_no x b r z));
+        after = sym (ap (λ (y : Answer). y.after) (answer_no x b r z));
         taken = λ w. w;
         still = λ _. refl;
         sizes = sizes;

@@ -59,9 +59,9 @@ module _ (x : Lent) (c : Settings) (k : Clock) (ec : c ≡ lent_settings x) (ek 
 
   -- ---- remaining
 
-  pub remaining-no : (p : ℕ) (r : Refusal) → o ≡ outcome.Refused r → ◌≡◌ {A = Remainder} (record { refusal = number_of r; remaining = pos 0 }) (remainder x p)
+  pub remaining_no : (p : ℕ) (r : Refusal) → o ≡ outcome.Refused r → ◌≡◌ {A = Remainder} (record { refusal = number_of r; remaining = pos 0 }) (remainder x p)
   unfolding remainder refused_remaining
-  remaining-no p r f = rw (refused r f, never_zero r, never_zero r)
+  remaining_no p r f = rw (refused r f, never_zero r, never_zero r)
 
   module _ (f : o ≡ outcome.Accepted) where
     fine : Fit (state_in x) x.history
@@ -71,9 +71,9 @@ module _ (x : Lent) (c : Settings) (k : Clock) (ec : c ≡ lent_settings x) (ek 
     limits = rw ec fine.sound.settled.limits
 
     module _ (p : ℕ) where
-      pub remaining-place : c.count ≤ p → ◌≡◌ {A = Remainder} (record { refusal = 12; remaining = pos 0 }) (remainder x p)
+      pub remaining_place : c.count ≤ p → ◌≡◌ {A = Remainder} (record { refusal = 12; remaining = pos 0 }) (remainder x p)
       unfolding remainder refused_remaining
-      remaining-place l =
+      remaining_place l =
           let out : (lent_settings x).count ≤ p = rw ec at l in
           rw (taken f, le-leb (lent_settings x).count p out)
 

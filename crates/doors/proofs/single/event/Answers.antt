@@ -6,49 +6,39 @@ use Rattle.model.specs.Arrays.{columns}
 use Rattle.doors.specs.Doors.{Sizes}
 use Rattle.doors.specs.Inner.{Room}
 use Rattle.doors.proofs.Lending.{room, answered_no, answered_yes}
-use borrow.Author.Rules.{rules}
 use Rattle.doors.proofs.single.event.Goals as goal
+use Rattle.doors.proofs.single.event.Goals.{After-refused_state-outcome}
 
--- what was lent, up to the test of the state; and what was read from it
-abbrev start : goal.After-refused_state-outcome → goal.Start
-start c = c
-
-abbrev given : goal.After-refused_state-outcome → Lent
+-- what was lent, up to the test of the state
+abbrev given : After-refused_state-outcome → Lent
 given c =
-    let a = (start c).args in
+    let a = c.args in
     lent a.settings.now a.shares.now a.used.now a.clock.now (columns a.exists.now a.ready.now a.partitions.now a.priorities.now a.masks.now a.policies.now a.slices.now) a.queue.now a.history.now
 
-abbrev read : goal.After-refused_state-outcome → goal.After-settings_in-s
-read c = c
-
-abbrev timed : goal.After-refused_state-outcome → goal.After-clock_in-c
-timed c = c
-
-lengths : (c : goal.After-refused_state-outcome) → Sizes (given c)
+lengths : (c : After-refused_state-outcome) → Sizes (given c)
 lengths c = let z = c.sized.ensures in record { used = z.0; queue = z.1 }
 
-ready-room : (c : goal.After-refused_state-outcome)
-    → Room (read c).settings_in-s.result (given c).used (given c).threads (given c).queue
-ready-room c =
+ready_room : (c : After-refused_state-outcome)
+    → Room c.settings_in-s.result (given c).used (given c).threads (given c).queue
+ready_room c =
     let z = c.sized.ensures in
     let x = given c in
-    room (read c).settings_in-s.result x.settings x.shares x.used x.threads x.queue (read c).settings_in-s.ensures z.0 z.1 z.2
+    room c.settings_in-s.result x.settings x.shares x.used x.threads x.queue c.settings_in-s.ensures z.0 z.1 z.2
 
 pub enter-reply-requires : goal.enter-reply-requires
 enter-reply-requires c =
-    let t = c in
-    (ready-room t, sym t.refused_state-outcome.ensures ∙ ap outcome_of c.enum_told.given.1)
+    let t = (goal.at.enter-reply-requires c).After-refused_state-outcome in
+    (ready_room t, sym t.refused_state-outcome.ensures ∙ ap outcome_of c.in-Accepted.is)
 
 pub returns-in-Refused : goal.returns-in-Refused
 returns-in-Refused c =
-    let t = c in
-    let o = c.outcome.given in
-    answered_no (given t) (read t).settings_in-s.result (timed t).clock_in-c.result (read t).settings_in-s.ensures (timed t).clock_in-c.ensures (lengths t) (start t).args.event.now t.refused_state-outcome.result o.0.0 o.1 t.refused_state-outcome.ensures
+    let t = (goal.at.returns-in-Refused c).After-refused_state-outcome in
+    answered_no (given t) t.settings_in-s.result t.clock_in-c.result t.settings_in-s.ensures t.clock_in-c.ensures (lengths t) t.args.event.now t.refused_state-outcome.result _ c.in-Refused.is t.refused_state-outcome.ensures
 
 pub returns-in-Accepted : goal.returns-in-Accepted
 returns-in-Accepted c =
-    let t = c in
+    let t = (goal.at.returns-in-Accepted c).After-refused_state-outcome in
     let f = c.enter-reply in
     let n = c.verdict_numbers in
-    answered_yes (given t) (read t).settings_in-s.result (timed t).clock_in-c.result (read t).settings_in-s.ensures (timed t).clock_in-c.ensures f.new.1.0 f.result.clock _ _ _ c.keep.new.0 (lengths t) (start t).args.event.now t.refused_state-outcome.result f.result.verdict n.result.refusal
-    c.enum_told.given.1 t.refused_state-outcome.ensures (ap (λ (l : Line). l.refusal) n.ensures) f.ensures c.keep.ensures
+    answered_yes (given t) t.settings_in-s.result t.clock_in-c.result t.settings_in-s.ensures t.clock_in-c.ensures f.new.used f.result.clock (columns f.new.exists f.new.ready f.new.partitions f.new.priorities f.new.masks f.new.policies f.new.slices) f.new.queue f.new.history c.keep.new.clock (lengths t) t.args.event.now t.refused_state-outcome.result f.result.verdict n.result.refusal
+    c.in-Accepted.is t.refused_state-outcome.ensures (ap (λ (l : Line). l.refusal) n.ensures) f.ensures c.keep.ensures

@@ -1,5 +1,4 @@
 use Rattle.doors.proofs.Starting.{begun}
-use borrow.Author.Rules.{rules}
 use Rattle.doors.proofs.start.begin.Goals as goal
 
 pub clear_rows-requires : goal.clear_rows-requires
@@ -12,4 +11,4 @@ pub returns : goal.returns
 returns c =
     let a = c.args in
     let k = c.keep_settings in
-    begun a.s a.history.now _ k.new.0 k.new.1.0 k.ensures c.clear_rows.ensures
+    begun a.s a.history.now _ k.new.numbers k.new.shares k.ensures c.clear_rows.ensures

@@ -1,8 +1,7 @@
 use Rattle.lists.specs.Lists.{below}
 use Rattle.doors.proofs.Starting.{shares_back}
-use borrow.Author.Rules.{rules}
 use Rattle.doors.proofs.words.amounts.Goals as goal
 
 pub returns : goal.returns
 unfolding below
-returns c = shares_back c.args.t1 c.requires
+returns c = shares_back c.args.list c.requires

@@ -1,5 +1,4 @@
 use mathlib.Core.Path.{sym}
-use borrow.Author.Rules.{rules}
 use borrow.Author.Tests.{le-ltb}
 use Rattle.model.specs.Lent.{flag_from}
 use Rattle.model.proofs.Flags.{flag_back}

@@ -1,6 +1,5 @@
 use mathlib.Core.Path.{refl}
 use Rattle.lists.specs.Lists.{below}
-use borrow.Author.Rules.{rules}
 use Rattle.doors.proofs.words.percents.Goals as goal
 
 pub returns : goal.returns

@@ -1,4 +1,3 @@
-use borrow.Author.Rules.{rules}
 use Rattle.doors.proofs.words.settings_in.Goals as goal
 
 pub returns : goal.returns
