@@ -1,7 +1,7 @@
 -- The mode, the order and the winner over kept data are the paper's.
 use mathlib.Core.Logic.{◌≢◌}
 use mathlib.Core.Path.{◌≡◌, refl, sym, ap, ◌∙◌}
-use Prim.Native.Nat.{ℕ, ◌+◌, ◌-◌, ◌≤◌, ◌<◌, ◌^◌}
+use Prim.Native.Nat.{ℕ, ◌+◌, ◌-◌, ◌<◌, ◌^◌}
 use mathlib.Core.Bool.{Bool, true, false, not, cond, ◌&&◌}
 use mathlib.Core.List.{List}
 use mathlib.Core.Option.{Option, none, some}
@@ -9,7 +9,7 @@ use lib.ListN.{get_or}
 use lib.Dec.{eqb, ltb}
 use native.Mathlib.Omega.{arith}
 use native.Mathlib.Decide.{ℕ_discrete, dec_lt}
-use borrow.Author.Tests.{ltb-true, ltb-false, lt-ltb, le-ltb, eq-eqb, ne_eqb}
+use borrow.Author.Tests.{ltb-true, lt-ltb, le-ltb, eq-eqb, ne_eqb}
 use Rattle.lists.specs.Lists.{below, any}
 use Rattle.lists.proofs.Tests.{clash, both, same}
 use Rattle.lists.proofs.All.{any_below, below_any}
@@ -215,8 +215,8 @@ module _ (s : State) (totals budgets tops firsts : List ℕ) (policy paying set 
       let x = k.led.inside p f in
       let y = k.led.inside q g in
       let budget_is : on_set solvent p q ≡ by_budget s p q = rw (k.weighed p x, k.weighed q y) in
-      let fraction-is : on_fraction totals budgets p q ≡ by_fraction s p q = rw (k.spent p x, k.spent q y, k.priced.amount p x, k.priced.amount q y) in
-      (λ i. compared_by (order_by m (k.ruled i)) (budget_is i) (priority_is p q b c f g i) (fraction-is i))
+      let fraction_is : on_fraction totals budgets p q ≡ by_fraction s p q = rw (k.spent p x, k.spent q y, k.priced.amount p x, k.priced.amount q y) in
+      (λ i. compared_by (order_by m (k.ruled i)) (budget_is i) (priority_is p q b c f g i) (fraction_is i))
       ∙ compared_is s p q m ∙ ap (λ (n : ℕ). compare s n p q) e
 
   -- of those tied for best, the favoured one, or else the lowest, is the winner

@@ -45,9 +45,9 @@ module _ (f : ℕ → ℕ) (l tops firsts : List ℕ) (set' p a b : ℕ) where
   }
 
   -- its own were
-  pub right-here : length tops ≡ 16 → length firsts ≡ 16 → p < 16 → (record { top = a; first = b }) ≡ lead_in f l → in_set set' p ≡ any_of l
+  pub right_here : length tops ≡ 16 → length firsts ≡ 16 → p < 16 → (record { top = a; first = b }) ≡ lead_in f l → in_set set' p ≡ any_of l
       → Right f l (set tops p a) (set firsts p b) set' p
-  right-here w v h e c = record {
+  right_here w v h e c = record {
     top = get_or-set_same tops p a 0 (omega (arith, w, h)) ∙ ap (λ (x : Lead). x.top) e;
     thread = get_or-set_same firsts p b 0 (omega (arith, v, h)) ∙ ap (λ (x : Lead). x.first) e;
     competes = c;
@@ -159,7 +159,7 @@ module _ (core : ℕ) (ps ns ms tops firsts : List ℕ) (set₀ t : ℕ) where
         at q b (yes e) =
             subst (λ (j : ℕ). RightAt core ps ns ms (line ++ (t ∷ [])) (set tops p (get_or ns t 0 + 1)) (set firsts p t) set' j) e
             (subst (λ (m : List ℕ). Right (numbers ns) m (set tops p (get_or ns t 0 + 1)) (set firsts p t) set' p) (sym (grown line))
-            (right-here (numbers ns) (l ++ (t ∷ [])) tops firsts set' p (get_or ns t 0 + 1) t k.wide k.long low new (in_set_law ∙ sym (some_there l))))
+            (right_here (numbers ns) (l ++ (t ∷ [])) tops firsts set' p (get_or ns t 0 + 1) t k.wide k.long low new (in_set_law ∙ sym (some_there l))))
         at q b (no n) =
             right_other (numbers ns) (runnable core ps ms q (line ++ (t ∷ []))) tops firsts set' p (get_or ns t 0 + 1) t set₀ q (λ e. n (sym e)) (others_in q b n)
             (unmoved line q (not_mine q n) (k.right q b))
@@ -245,7 +245,7 @@ module _ (core : ℕ) (ps ns ms line tops firsts : List ℕ) (set₀ left : ℕ)
       at : (q : ℕ) → q < 16 → in_set next q ≡ false → Dec (q ≡ p) → RightAt core ps ns ms line (set tops p x.top) (set firsts p x.first) set' q
       at q b f (yes w) =
           subst (λ (j : ℕ). RightAt core ps ns ms line (set tops p x.top) (set firsts p x.first) set' j) (sym w)
-          (right-here (numbers ns) (runnable core ps ms p line) tops firsts set' p x.top x.first s.wide s.long l.inside e marked)
+          (right_here (numbers ns) (runnable core ps ms p line) tops firsts set' p x.top x.first s.wide s.long l.inside e marked)
       at q b f (no n) =
           right_other (numbers ns) (runnable core ps ms q line) tops firsts set' p x.top x.first set₀ q n
           (m q b ∙ ap (λ (z : Bool). cond z (not (eqb x.top 0)) (in_set set₀ q)) (ne_eqb q p n)) (s.right q b (sym (left_of_law q b n) ∙ f))
@@ -472,9 +472,9 @@ module _ (core : ℕ) (ps ns ms line tops firsts : List ℕ) (set₀ t : ℕ) (h
   unchanged : (q : ℕ) → q < 16 → mine core ps ms q t ≡ false → RightAt core ps ns ms line tops firsts set₀ q
   unchanged q b e =
       let k = runnable core ps ms q h.old_line in
-      let as-was : runnable core ps ms q line ≡ k = ap (runnable core ps ms q) h.moved ∙ requeued_out core ps ms h.old_line t q (g t) (f t) e in
+      let as_was : runnable core ps ms q line ≡ k = ap (runnable core ps ms q) h.moved ∙ requeued_out core ps ms h.old_line t q (g t) (f t) e in
       right_as g f k (runnable core ps ms q line) tops firsts set₀ q
-      (ap (lead_in f) as-was ∙ lead_same f g k (λ u m. h.others u (λ w. clash m (subst (λ (v : ℕ). member v k ≡ false) (sym w) (outside core ps ms q h.old_line t e))))) (ap any_of as-was) (h.kept.right q b)
+      (ap (lead_in f) as_was ∙ lead_same f g k (λ u m. h.others u (λ w. clash m (subst (λ (v : ℕ). member v k ≡ false) (sym w) (outside core ps ms q h.old_line t e))))) (ap any_of as_was) (h.kept.right q b)
 
   other : (q : ℕ) → q < 16 → q ≢ p → RightAt core ps ns ms line tops firsts set₀ q
   other q b n = unchanged q b (not_mine core ps ns ms tops firsts set₀ t q (λ e. n (sym e)))
@@ -524,7 +524,7 @@ module _ (core : ℕ) (ps ns ms line tops firsts : List ℕ) (set₀ t : ℕ) (h
         at : (q : ℕ) → q < 16 → Dec (q ≡ p) → RightAt core ps ns ms line (set tops p (get_or ns t 0 + 1)) (set firsts p t) set₀ q
         at q b (yes e) =
             subst (λ (j : ℕ). RightAt core ps ns ms line (set tops p (get_or ns t 0 + 1)) (set firsts p t) set₀ j) (sym e)
-            (right-here f (runnable core ps ms p line) tops firsts set₀ p (get_or ns t 0 + 1) t h.kept.wide h.kept.long h.partition new
+            (right_here f (runnable core ps ms p line) tops firsts set₀ p (get_or ns t 0 + 1) t h.kept.wide h.kept.long h.partition new
             (was.competes ∙ sym any_is))
         at q b (no n) = right_other f (runnable core ps ms q line) tops firsts set₀ p (get_or ns t 0 + 1) t set₀ q n refl (other q b n)
 

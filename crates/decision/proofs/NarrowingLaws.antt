@@ -196,12 +196,12 @@ module _ (R : ℕ → ℕ → Comparison) (o : Ordered R) where
     -- one number more, by the values of the best and of the new one
     passed_more : (A : Type 0) (value : ℕ → A) (old new v : A) (set : ℕ) → value b ≡ old → value q ≡ new
         → OneMore A (R q b) old new kept q v set → (c : ℕ) × (value c ≡ v) × Passed R w next set c
-    passed_more A value old new v set is-old is-new m = go (R q b) refl
+    passed_more A value old new v set is_old is_new m = go (R q b) refl
       where
         go : (y : Comparison) → R q b ≡ y → (c : ℕ) × (value c ≡ v) × Passed R w next set c
-        go Better e = let (x, s) = m.ahead e in (q, is-new ∙ sym x, step_ahead set e s)
-        go Worse e = let (x, s) = m.behind e in (b, is-old ∙ sym x, subst (λ (k : ℕ). Passed R w next k b) (sym s) (step_behind e))
-        go Equal e = let (x, s) = m.level e in (b, is-old ∙ sym x, step_level set e s)
+        go Better e = let (x, s) = m.ahead e in (q, is_new ∙ sym x, step_ahead set e s)
+        go Worse e = let (x, s) = m.behind e in (b, is_old ∙ sym x, subst (λ (k : ℕ). Passed R w next k b) (sym s) (step_behind e))
+        go Equal e = let (x, s) = m.level e in (b, is_old ∙ sym x, step_level set e s)
 
   -- the same where values are compared
   pub passed_value : (A : Type 0) (S : A → A → Comparison) (value : ℕ → A) → ((p q : ℕ) → R p q ≡ S (value p) (value q))

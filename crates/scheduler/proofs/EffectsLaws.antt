@@ -17,7 +17,7 @@ use Rattle.lists.proofs.Parts.{row_end, part_at}
 use Rattle.units.specs.Units.{elapsed_of, next_of}
 use Rattle.sheet.specs.Settings.{W, C, need}
 use Rattle.sheet.specs.declared.Settings.{Settings}
-use Rattle.model.specs.State.{thread, used, queue_of, idle, wanted, State, Thread}
+use Rattle.model.specs.State.{thread, queue_of, idle, wanted, State, Thread}
 use Rattle.model.specs.Typed.{Lengths}
 use Rattle.model.specs.Event
 use Rattle.model.specs.Event.{kind_of, thread_of, stamp_of}
@@ -31,7 +31,7 @@ use Rattle.model.proofs.Table.{thread_at_law, threads_length}
 use Rattle.invariants.proofs.Acts.{act_settled}
 use Rattle.invariants.proofs.Charges.{used_length}
 use Rattle.invariants.proofs.Kept.{charge_settled, length_charge}
-use Rattle.invariants.proofs.Applied.{Left, named, apply_left}
+use Rattle.invariants.proofs.Applied.{Left, apply_left}
 use Rattle.invariants.proofs.Turns.{none_above, sliced_queue}
 use Rattle.event.specs.declared.kinds.Action.{Action}
 use Rattle.event.specs.declared.kinds.Action.TheVariants.{Tick, Resume}
@@ -137,9 +137,9 @@ module _ (c : Settings) (u : List ℕ) (k : Clock) (ts : Columns) (q h budgets t
 
   -- ---- the charge, of an event that is no resume
 
-  module _ (no-resume : kind_of b ≢ 7) where
+  module _ (no_resume : kind_of b ≢ 7) where
     short : k.since.0 + took ≤ 2 * C c
-    short = subst (λ (i : ℕ). k.since.0 + elapsed_of i k.stamp ≤ 2 * C c) (sym g.stamped) (g.accepted.short no-resume)
+    short = subst (λ (i : ℕ). k.since.0 + elapsed_of i k.stamp ≤ 2 * C c) (sym g.stamped) (g.accepted.short no_resume)
 
     pays : k.running ≢ 255 → Pays c u k p h took
     pays on =
@@ -162,7 +162,7 @@ module _ (c : Settings) (u : List ℕ) (k : Clock) (ts : Columns) (q h budgets t
     charged : Settled (charge v x.stamp).state (charge v x.stamp).history
     charged =
         subst (λ (i : ℕ). Settled (charge v i).state (charge v i).history) (sym g.stamped)
-        (charge_settled v b lengths.used g.accepted.fit.room g.accepted.fit.sound (g.accepted.short no-resume))
+        (charge_settled v b lengths.used g.accepted.fit.room g.accepted.fit.sound (g.accepted.short no_resume))
 
     charged_room : wanted (charge v x.stamp).state ≤ length (charge v x.stamp).history
     charged_room =
@@ -322,9 +322,9 @@ module _ (c : Settings) (u : List ℕ) (k : Clock) (ts : Columns) (q h budgets t
 
   -- ---- the action
 
-  module _ (no-tick : kind_of b ≢ 1) (no-resume : kind_of b ≢ 7) where
+  module _ (no_tick : kind_of b ≢ 1) (no_resume : kind_of b ≢ 7) where
     kinds_are : (2 ≤ kind_of b) × (kind_of b ≤ 6)
-    kinds_are = let (lo, hi) = known_form b g.accepted.formed in (omega (arith, lo, no-tick), omega (arith, hi, no-resume))
+    kinds_are = let (lo, hi) = known_form b g.accepted.formed in (omega (arith, lo, no_tick), omega (arith, hi, no_resume))
 
     pub inside : x.thread < 64
     inside = g.accepted.named.thread_inside kinds_are.0 kinds_are.1
@@ -364,7 +364,7 @@ module _ (c : Settings) (u : List ℕ) (k : Clock) (ts : Columns) (q h budgets t
           let first = d ts q in
           let y = state_of c u' k' ts q in
           let kept : k.queued ≡ k'.queued = sym (ap (λ (z : Saved). z.state.queued) first ∙ charge_queued v x.stamp) in
-          applied_other v b no-resume no-tick (saved y h') (state_of c u' (with_queued k' i) ts' q')
+          applied_other v b no_resume no_tick (saved y h') (state_of c u' (with_queued k' i) ts' q')
           (first ∙ ap (charge v) g.stamped) (a y ∙ ap (λ (j : ℕ). act (with_tables y (tables_in ts q j)) b) kept)
 
       pub followed : (y : Action) (t home : ℕ) → x.action ≡ y → t ≡ x.thread → home ≡ get_or p t 0 → Followed c.core ts'.ready ts'.partitions ts'.priorities ts'.masks q' i tops firsts sets.competing y t home
