@@ -65,10 +65,9 @@ def same_module():
     """The modules are those of the archive for x86-64: the objects that were made of them are its objects."""
     run([ROOT / "tools/archive"])
     home, tools = board.kit()
-    whole = ROOT / "target/staticlib/libsaplingloft.a"
     for crate in board.CRATES:
         made = board.OUT / "module" / f"{crate}.x86-64.a"
-        one, other = (run([home / tools / "llvm-ar", "p", archive, f"{crate}.o"]) for archive in (made, whole))
+        one, other = (run([home / tools / "llvm-ar", "p", archive, f"{crate}.o"]) for archive in (made, board.HOSTED))
         expect(one == other and one.startswith(b"\x7fELF"), f"the module of {crate} is not that of the archive for x86-64")
 
 
@@ -92,7 +91,7 @@ def built(compiler, archive, folder):
 
 def same_answers():
     """Every processor answers as the reference and other schedulers do on their streams, and as x86-64 on damaged states."""
-    here = built(["cc"], ROOT / "target/staticlib/libsaplingloft.a", OUT / "x86-64")
+    here = built(["cc"], board.HOSTED, OUT / "x86-64")
     wanted, layout = run([here / "damage", *DAMAGES]), run([here / "layout"])
     counts = dict(line.split(": ") for line in wanted.decode().splitlines() if ": " in line)
     expect(len(counts) == COUNTS and all(int(count) > 20 for count in counts.values()), f"the damages do not meet every refusal and mode: {counts}")

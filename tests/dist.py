@@ -14,18 +14,28 @@ from expecting import Expecting
 from folders import ROOT, show
 
 expect = Expecting("dist")
-# crates.txt of a small repository, and what `rt` prints there: c is in no program, io is the kit's own
-CRATES = "# layers\na:\nb: a\nc:\n\n# programs\nchecksheet: a io\ndesk: b io\n"
+# crates.txt of a small repository, and what `rt` does there: c is in no program, anyhow is the kit's own, and a quick pass over the sources comes first
+CRATES = "# layers\na:\nb: a\nc:\ns staticlib: a\n\n# programs\nchecksheet: a anyhow\ndesk: b anyhow\n"
 RT = """#!/bin/sh
-[ "$*" = "check desk checksheet" ] || { echo "rt: other words: $*"; exit 2; }
-echo "rt: a proved (2 s)"
-echo "what the prover says otherwise"
-echo "rt: b proved (unchanged since it was last proved)"
-[ ! -e broken ] || { echo "rt: desk NOT PROVED (exit 1, 3 s)"; exit 1; }
-echo "rt: checksheet proved (1 s)"
-echo "rt: desk proved (1 s)"
-echo "rt: desk ran as nobody, and wrote what its file 'stdout' has (0 s)"
-[ -e target/bin/desk ] || { mkdir -p target/bin && touch target/bin/desk target/bin/checksheet && chmod +x target/bin/*; }
+program=$(basename "$PWD")
+[ "$*" = "run --cpu x86-64" ] || { echo "rt: other words: $*" >&2; exit 2; }
+proved() {
+    echo "fn $1::f: proved" >&2
+    echo "crate $1: modules loaded=0 checked=7" >&2
+    echo "logic=proved functions=1" >&2
+}
+if [ $program = desk ]; then
+    echo "crate desk: modules loaded=0 checked=0" >&2
+    echo "only=0 holes=0" >&2
+    proved a
+    echo "what the prover says otherwise" >&2
+    proved b
+fi
+[ ! -e ../../broken ] || { echo "fn desk::main: not proved" >&2; echo "logic=not-proved" >&2; exit 1; }
+proved $program
+mkdir -p out && touch out/$program out/$program.o && chmod +x out/$program
+echo "rt: running out/$program" >&2
+echo "what the program prints"
 """
 
 
@@ -61,7 +71,8 @@ def packed(folder):
 def built(folder):
     """A build in a small repository whose rt only prints."""
     (folder / "tools").mkdir(parents=True)
-    (folder / "crates/a").mkdir(parents=True)
+    for crate in ("a", "b", "c", "s", "desk", "checksheet"):
+        (folder / "crates" / crate / "src").mkdir(parents=True)
     (folder / "path").mkdir()
     shutil.copy2(ROOT / "tools/build", folder / "tools/build")
     (folder / "crates.txt").write_text(CRATES)
@@ -74,7 +85,10 @@ def built(folder):
 
     first = build()
     expect(first.returncode == 0 and "4 crates" in first.stdout and re.findall(r"(\d) of 4: (\w+) proved", first.stdout)
-           == [("1", "a"), ("2", "b"), ("3", "checksheet"), ("4", "desk")], f"a build says {first.stdout!r}")
+           == [("1", "a"), ("2", "b"), ("3", "desk"), ("4", "checksheet")], f"a build says {first.stdout!r}")
+    expect("what the program prints" not in first.stdout, f"a build says what the programs print: {first.stdout!r}")
+    expect(all((folder / "target" / made).exists() for made in ("bin/desk", "bin/checksheet", "obj/desk.o", "obj/checksheet.o")),
+           "a build leaves no programs")
     expect(build().stdout == "", "what is built is built again")
     (folder / "crates/a/new").touch()
     expect("4 of 4" in build().stdout, "what was changed is not built again")
@@ -88,7 +102,7 @@ def built(folder):
     (folder / "broken").touch()
     for _ in range(2):
         last = build()
-        expect(last.returncode == 1 and "desk NOT PROVED" in last.stdout and "what the prover says otherwise" in last.stdout,
+        expect(last.returncode == 1 and "desk::main: not proved" in last.stdout and "what the prover says otherwise" in last.stdout,
                f"a broken build says {last.stdout!r}")
 
 

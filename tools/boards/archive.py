@@ -5,23 +5,25 @@ of x86-64, goes to the back end of another processor. To get at it the kit is mi
 that keeps the module and goes on as usual. Nothing is needed but the kit.
 """
 import configparser
-import os
 import re
 import shlex
 import shutil
 import subprocess
+import tempfile
 from pathlib import Path
 
 from boards import elf
 
 ROOT = Path(__file__).resolve().parents[2]
+HOSTED = ROOT / "target/staticlib/libsaplingloft.a"  # for x86-64, as tools/archive makes it
 OUT = ROOT / "target/board"
 LIST = ROOT / "tools/boards/targets.ini"
 CRATES = ("saplingloft", "saplingloft_run")
 DOORS = ("start", "event", "run", "decision", "remaining", "read_sheet", "write_sheet")
 # as the kit compiles for x86-64, but for the level: a board has less room
 OPTIONS = ("--no-default-config", "-Wno-override-module", "-ffunction-sections", "-fdata-sections", "-fstack-size-section",
-           "-mllvm", "-trap-unreachable", "-mllvm", "-no-trap-after-noreturn", "-O2", "-c")
+           "-mllvm", "-trap-unreachable", "-mllvm", "-no-trap-after-noreturn", "-mllvm", "-disable-machine-licm",
+           "-mllvm", "-disable-postra-machine-licm", "-mllvm", "-sink-common-insts=false", "-O2", "-c")
 
 
 class Failed(Exception):
@@ -40,8 +42,7 @@ def kit():
     """The kit's folder, and where in it the compiler and its like are."""
     if not shutil.which("rt"):
         raise Failed("the Rattle kit (rt) is needed. README.md says more")
-    home = Path(said(["rt", "doc"]).strip()).parent.parent
-    return home, Path("on", os.uname().machine, "toolchain/bin")
+    return Path(said(["rt", "doc"]).strip()).parent, Path("toolchain/bin")
 
 
 def targets():
@@ -63,23 +64,27 @@ exec {compiler} "$@"
 """
 
 
-def mirrored(work, home, tools):
-    """The kit, with a script in the place of its compiler that keeps the module; and the repository with its proofs, but with room of its own for
-    what is built, so that the archive for x86-64 is not touched."""
-    shutil.copytree(home, work / "kit", copy_function=os.symlink)
-    compiler = work / "kit" / tools / "clang"
+def mirrored(mirror, home, tools, kept):
+    """The kit, by links, but with a script in the place of its compiler that keeps the module. The files of `rt` are copies: it looks for its kit around
+    them."""
+    folders = [Path(), Path("bin"), tools.parent, tools]
+    for folder in folders:
+        (mirror / folder).mkdir()
+        for path in (home / folder).iterdir():
+            if folder / path.name in (Path("bin/rt"), Path("bin/rtlib.py")):
+                shutil.copy2(path, mirror / folder)
+            elif folder / path.name not in folders:
+                (mirror / folder / path.name).symlink_to(path)
+    compiler = mirror / tools / "clang"
     compiler.unlink()
-    compiler.write_text(KEEPER.format(kept=shlex.quote(str(work / "kept.bc")), compiler=shlex.quote(str(home / tools / "clang"))))
+    compiler.write_text(KEEPER.format(kept=shlex.quote(str(kept)), compiler=shlex.quote(str(home / tools / "clang"))))
     compiler.chmod(0o755)
-    (work / "tree/target").mkdir(parents=True)
-    for name in ("crates", "crates.txt", "target/rlib", "target/stamp", "target/log"):
-        (work / "tree" / name).symlink_to(ROOT / name)
 
 
 def neutral(source):
     """A module's text without what it says of x86-64: the layout of data, the processor, how a stack is probed."""
     source = re.sub(r"^target (datalayout|triple) = .*\n", "", source, flags=re.M)
-    source, changed = re.subn(r' "probe-stack"="inline-asm" "target-cpu"="x86-64"', "", source)
+    source, changed = re.subn(r' "probe-stack"="inline-asm" "stack-probe-size"="\d+" "target-cpu"="x86-64"', "", source)
     if not changed or "x86" in source:
         raise Failed("the module speaks of x86 in a way that is not known here")
     return source
@@ -103,27 +108,25 @@ def modules():
     """The neutral modules of the proved crates, made anew where a crate was."""
     home, tools = kit()
     made = [OUT / "module" / f"{crate}.ll" for crate in CRATES]
-    proofs = [ROOT / "target/stamp" / crate for crate in CRATES]
-    if not all(path.exists() for path in proofs):
+    if not HOSTED.exists():
         print("Proving the library: the first time this takes some minutes.", flush=True)
-    said(["rt", "check", *CRATES], cwd=ROOT)
-    if fresh(made, *proofs, Path(__file__)):
+    said([ROOT / "tools/archive"])
+    if fresh(made, HOSTED, Path(__file__)):
         return made
-    work = OUT / "work"
-    shutil.rmtree(work, ignore_errors=True)
-    work.mkdir(parents=True)
-    made[0].parent.mkdir(exist_ok=True)
-    mirrored(work, home, tools)
-    for crate, path in zip(CRATES, made):
-        said(["rt", "staticlib", crate], cwd=work / "tree", env={**os.environ, "RATTLE_HOME": str(work / "kit")})
-        source = neutral(said([home / tools / "clang", "--no-default-config", "-x", "ir", work / "kept.bc", "-S", "-emit-llvm", "-O0", "-Xclang",
-                               "-disable-llvm-passes", "-o", "-"]))
-        without_cycles(source)
-        path.write_text(source)
-        # the archive for x86-64 that was made of it, for comparing
-        shutil.copy(work / "tree/target/staticlib" / f"lib{crate}.a", path.with_suffix(".x86-64.a"))
-        (work / "kept.bc").unlink()
-    shutil.rmtree(work)
+    made[0].parent.mkdir(parents=True, exist_ok=True)
+    # not in the repository, in which the checker refuses links
+    with tempfile.TemporaryDirectory() as work:
+        mirror, kept = Path(work, "kit"), Path(work, "kept.bc")
+        mirrored(mirror, home, tools, kept)
+        for crate, path in zip(CRATES, made):
+            said([mirror / "bin/rt", "lib", "--cpu", "x86-64"], cwd=ROOT / "crates" / crate)
+            source = neutral(said([home / tools / "clang", "--no-default-config", "-x", "ir", kept, "-S", "-emit-llvm", "-O0", "-Xclang",
+                                   "-disable-llvm-passes", "-o", "-"]))
+            without_cycles(source)
+            path.write_text(source)
+            # the archive for x86-64 that was made of it, for comparing
+            shutil.copy(ROOT / "crates" / crate / f"out/lib{crate}.a", path.with_suffix(".x86-64.a"))
+            kept.unlink()
     return made
 
 
