@@ -288,22 +288,6 @@ module _ (core : ℕ) (ps ns ms q : List ℕ) (p : ℕ) where
 
 -- ---- a thread left
 
-module _ (core : ℕ) (ps ns ms line tops firsts : List ℕ) (set₀ p t : ℕ) (low : p < 16) (h : Left core ps ns ms line tops firsts set₀ p t) where
-  pub left_same : get_or firsts p 0 ≢ t → KeptIn core ps ns ms line tops firsts set₀
-  left_same n = record { wide = h.wide; long = h.long; right = λ q b. at q b (ℕ_discrete q p) }
-    where
-      at : (q : ℕ) → q < 16 → Dec (q ≡ p) → RightAt core ps ns ms line tops firsts set₀ q
-      at q b (yes e) = subst (λ (j : ℕ). RightAt core ps ns ms line tops firsts set₀ j) (sym e) (h.same n)
-      at q b (no m) = h.others q b m
-
-  pub left_stale : (stale : ℕ) → Only 16 p stale → Stale core ps ns ms line tops firsts set₀ stale
-  left_stale stale o = record {
-    wide = h.wide;
-    long = h.long;
-    right = λ q b f. h.others q b (λ e. clash (o q b ∙ eq-eqb q p e) f);
-    below = λ q b f. subst (λ (j : ℕ). level_of (numbers ns) (runnable core ps ms j line) ≤ get_or tops j 0) (sym (eqb-true q p (sym (o q b) ∙ f))) h.below;
-  }
-
 -- they depend on the numbers of the queued threads alone
 pub kept_as : (core : ℕ) (ps ns ms ps₀ ns₀ ms₀ line tops firsts : List ℕ) (set₀ : ℕ)
     → ((u : ℕ) → member u line ≡ true → (get_or ps u 0 ≡ get_or ps₀ u 0) × (get_or ns u 0 ≡ get_or ns₀ u 0) × (get_or ms u 0 ≡ get_or ms₀ u 0))

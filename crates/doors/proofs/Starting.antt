@@ -18,9 +18,7 @@ use Rattle.refusals.specs.declared.Refusal.{Refusal}
 use Rattle.refusals.specs.declared.Refusal.TheVariants.{Buffer}
 use Rattle.refusals.proofs.Laws.{never_zero}
 use Rattle.units.specs.declared.Percent.{Percent}
-use Rattle.sheet.specs.Settings.{W, Limits}
-use Rattle.sheet.proofs.Within.{limits_of}
-use Rattle.sheet.proofs.Sheets.{sheet_within, sheet_clear}
+use Rattle.sheet.specs.Settings.{W}
 use Rattle.sheet.specs.Sheet as Sheet
 use Rattle.sheet.specs.declared.Settings.{Settings}
 use Rattle.model.specs.State.{cycles, absent}
@@ -128,15 +126,9 @@ module _ (x : Lent) (sheet : List ℕ) where
     none_refused : Sheet.refused_sheet sheet ≡ 0
     none_refused = sym e ∙ ap outcome_of f
 
-    pub is_read : c ≡ Sheet.settings_of sheet
+    is_read : c ≡ Sheet.settings_of sheet
     unfolding Sheet.settings_read
     is_read = i ∙ rw none_refused
-
-    pub within : Limits c
-    within = rw is_read (limits_of (Sheet.settings_of sheet) (sheet_within sheet none_refused))
-
-    pub sixteen : length c.shares ≡ 16
-    sixteen = rw is_read (sheet_clear sheet none_refused).0
 
     pub begun_short : length x.history < c.count * W c → Begun x sheet 7 x
     begun_short l = refused (outcome.Refused Buffer) Buffer refl (sym (start_short none_refused (subst (λ (j : Settings). length x.history < j.count * W j) is_read l)))

@@ -34,7 +34,6 @@ use Rattle.invariants.proofs.Kept.{charge_settled, length_charge}
 use Rattle.invariants.proofs.Applied.{Left, apply_left}
 use Rattle.invariants.proofs.Turns.{none_above, sliced_queue}
 use Rattle.event.specs.declared.kinds.Action.{Action}
-use Rattle.event.specs.declared.kinds.Action.TheVariants.{Tick, Resume}
 use Rattle.event.specs.Kinds.{kind_number}
 use Rattle.event.specs.Bytes.{bytes_of}
 use Rattle.event.specs.declared.Event.{Event}
@@ -317,9 +316,6 @@ module _ (c : Settings) (u : List ℕ) (k : Clock) (ts : Columns) (q h budgets t
     held = stays u' k' set' (ap (λ (z : Saved). z.state.queued) (d ts q) ∙ restart_queued v x.stamp) w;
   }
 
-  pub can_restart : (c.count ≤ 16) × (c.count * W c ≤ length h)
-  can_restart = (settled.limits.count_high, g.accepted.fit.room)
-
   -- ---- the action
 
   module _ (no_tick : kind_of b ≢ 1) (no_resume : kind_of b ≢ 7) where
@@ -400,9 +396,3 @@ module _ (c : Settings) (u : List ℕ) (k : Clock) (ts : Columns) (q h budgets t
 
 pub not_resume : (x : Event) → kind_of (bytes_of x) ≡ 1 → kind_of (bytes_of x) ≢ 7
 not_resume x e z = omega (arith, e, z)
-
-pub only_tick : (a : Action) → kind_number a ≡ 1 → a ≡ Tick
-only_tick a e = grind arith
-
-pub only_resume : (a : Action) → kind_number a ≡ 7 → a ≡ Resume
-only_resume a e = grind arith

@@ -13,15 +13,6 @@ returns-then-competing-eq0 c =
     λ s f k favoured. decided_idle s a.used.now a.budgets.now a.tops.now a.firsts.now a.policy a.paying a.competing a.solvent k
     f m.result m.ensures c.if-competing-eq0.true (omega arith)
 
-pub winner_of-winner-requires : goal.winner_of-winner-requires
-winner_of-winner-requires c = c.level_of-level.ensures.some
-
-pub overflow_cast-at : goal.overflow_cast-at
-overflow_cast-at c = omega (arith, c.winner_of-winner.ensures.lowest.inside)
-
-pub bounds-firsts-at : goal.bounds-firsts-at
-bounds-firsts-at c = c.winner_of-winner.ensures.lowest.inside
-
 pub returns : goal.returns
 returns c =
     let a = c.args in

@@ -6,9 +6,6 @@ use Rattle.decision.proofs.NarrowingLaws.{set_ordered, narrowed_twice}
 use Rattle.decision.proofs.DecisionLaws.{asked_ordered}
 use Rattle.decision.proofs.level_of.Goals as goal
 
-pub by_priority-requires : goal.by_priority-requires
-by_priority-requires c = c.by_budget-rich.ensures.some
-
 pub returns : goal.returns
 returns c =
     let a = c.args in

@@ -4,9 +4,6 @@ use Rattle.decision.proofs.kept.favoured_after.Goals as goal
 pub returns-then-running-eq-IDLE : goal.returns-then-running-eq-IDLE
 returns-then-running-eq-IDLE c = let a = c.args in favours_none a.running a.partition c.if-running-eq-IDLE.true
 
-pub only-requires : goal.only-requires
-only-requires c = c.requires c.if-running-eq-IDLE.false
-
 pub returns : goal.returns
 returns c =
     let a = c.args in

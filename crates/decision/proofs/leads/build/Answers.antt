@@ -14,15 +14,6 @@ loop-i-init c =
     let a = c.args in
     (omega arith, kept_none a.core a.partitions.now a.priorities.now a.masks.now)
 
-pub bounds-queue-i : goal.bounds-queue-i
-bounds-queue-i c = omega (arith, c.requires.few)
-
-pub join-set-requires : goal.join-set-requires
-join-set-requires c =
-    let d = c in
-    let start = d in
-    (start.requires.entries d.loop-i.i d.loop-i-test.true, start.requires.core_inside, start.requires.partitions_inside d.loop-i.i d.loop-i-test.true)
-
 pub loop-i-preserved : goal.loop-i-preserved
 loop-i-preserved c =
     let d = c in
@@ -36,11 +27,3 @@ loop-i-preserved c =
       subst (λ (l : List ℕ). KeptIn a.core a.partitions.now a.priorities.now a.masks.now l c.join-set.new.tops c.join-set.new.firsts c.join-set.result) e
           (c.join-set.ensures (take turn.i q) turn.invariant.1),
     )
-
-pub returns : goal.returns
-returns c =
-    let start = c in
-    let a = start.args in
-    let turn = c.loop-i in
-    let e : turn.i ≡ a.queued = omega arith in
-    subst (λ (k : ℕ). KeptIn a.core a.partitions.now a.priorities.now a.masks.now (take k a.queue.now) turn.tops turn.firsts turn.set) e turn.invariant.1

@@ -7,49 +7,10 @@ use Rattle.decision.proofs.LeadsLaws.{stale_none, stale_step, walk_none, walk_pa
 use Rattle.decision.proofs.leads.renew.Goals as goal
 use Rattle.decision.proofs.leads.renew.Goals.{then-n-i, else-n-i+else-not-may_run+then-best-ceiling}
 
-pub loop-left-init : goal.loop-left-init
-loop-left-init c = c.requires.1
-
-pub overflow_cast-here : goal.overflow_cast-here
-overflow_cast-here c = omega (arith, c.lowest-p.ensures.inside)
-
-pub offset_bounds-tops-here : goal.offset_bounds-tops-here
-offset_bounds-tops-here c = omega (arith, c.lowest-p.ensures.inside)
-
-pub bounds-tops-here : goal.bounds-tops-here
-bounds-tops-here c = c.lowest-p.ensures.inside
-
 pub loop-i-init : goal.loop-i-init
 loop-i-init c =
     let a = c.args in
     (omega arith, walk_none a.core a.partitions.now a.priorities.now a.masks.now a.queue.now c.lowest-p.result)
-
-pub bounds-queue-i : goal.bounds-queue-i
-bounds-queue-i c = omega (arith, c.if-n-i.false, c.requires.0.few)
-
-pub overflow_cast-at : goal.overflow_cast-at
-overflow_cast-at c =
-    let d = c in
-    omega (arith, d.requires.0.entries d.loop-i.i d.if-n-i.false)
-
-pub overflow_add-i : goal.overflow_add-i
-overflow_add-i c = omega (arith, c.if-n-i.false, c.requires.0.few)
-
-pub bounds-partitions-at : goal.bounds-partitions-at
-bounds-partitions-at c =
-    let d = c in
-    d.requires.0.entries d.loop-i.i d.if-n-i.false
-
-pub bounds-masks-at : goal.bounds-masks-at
-bounds-masks-at c =
-    let d = c in
-    d.requires.0.entries d.loop-i.i d.if-n-i.false
-
-pub may_run-requires : goal.may_run-requires
-may_run-requires c = c.requires.0.core_inside
-
-pub loop-i-smaller-then-not-may_run : goal.loop-i-smaller-then-not-may_run
-loop-i-smaller-then-not-may_run c = let d = c in omega (arith, d.if-n-i.false)
 
 pub loop-i-preserved-then-not-may_run : goal.loop-i-preserved-then-not-may_run
 loop-i-preserved-then-not-may_run c =
@@ -64,14 +25,6 @@ loop-i-preserved-then-not-may_run c =
           turn.i turn.best h (sym may.ensures ∙ c.if-not-may_run.true) turn.invariant.1,
     )
 
-pub bounds-priorities-at : goal.bounds-priorities-at
-bounds-priorities-at c =
-    let d = c in
-    d.requires.0.entries d.loop-i.i d.if-n-i.false
-
-pub loop-i-smaller : goal.loop-i-smaller
-loop-i-smaller c = let d = c in omega (arith, d.if-n-i.false)
-
 pub loop-i-preserved : goal.loop-i-preserved
 loop-i-preserved c =
     let d = c in
@@ -85,24 +38,6 @@ loop-i-preserved c =
           turn.i turn.best c.raise-best.result h (sym may.ensures ∙ c.if-not-may_run.false) turn.invariant.1
           c.raise-best.ensures,
     )
-
-pub offset_bounds-tops-here-in-loop-left : goal.offset_bounds-tops-here-in-loop-left
-offset_bounds-tops-here-in-loop-left c = omega (arith, c.lowest-p.ensures.inside)
-
-pub bounds-tops-here-in-loop-left : goal.bounds-tops-here-in-loop-left
-bounds-tops-here-in-loop-left c = c.lowest-p.ensures.inside
-
-pub bounds-firsts-here : goal.bounds-firsts-here
-bounds-firsts-here c = c.lowest-p.ensures.inside
-
-pub mark-set-requires : goal.mark-set-requires
-mark-set-requires c = c.lowest-p.ensures.inside
-
-pub rest-left-requires : goal.rest-left-requires
-rest-left-requires c = c.loop-left-test.true
-
-pub loop-left-smaller : goal.loop-left-smaller
-loop-left-smaller c = c.rest-left.ensures.0
 
 pub loop-left-preserved : goal.loop-left-preserved
 loop-left-preserved c =

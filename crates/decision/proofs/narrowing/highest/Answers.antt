@@ -1,23 +1,10 @@
 use mathlib.Core.Path.{refl}
 use Prim.Native.Nat.{ℕ}
-use native.Mathlib.Omega.{arith}
 use lib.ListN.{get_or}
 use Rattle.units.specs.Units.{compare_numbers}
 use Rattle.decision.specs.Narrowing.{on_priority}
 use Rattle.decision.proofs.NarrowingLaws.{tops_ordered, passed_start, passed_value, passed_all}
 use Rattle.decision.proofs.narrowing.highest.Goals as goal
-
-pub overflow_cast-at : goal.overflow_cast-at
-overflow_cast-at c = omega (arith, c.lowest-p.ensures.inside)
-
-pub only-kept-requires : goal.only-kept-requires
-only-kept-requires c = c.lowest-p.ensures.inside
-
-pub offset_bounds-tops-at : goal.offset_bounds-tops-at
-offset_bounds-tops-at c = omega (arith, c.lowest-p.ensures.inside)
-
-pub bounds-tops-at : goal.bounds-tops-at
-bounds-tops-at c = c.lowest-p.ensures.inside
 
 pub loop-left-init : goal.loop-left-init
 loop-left-init c =
@@ -29,21 +16,6 @@ loop-left-init c =
       passed_start (on_priority tops) (tops_ordered tops) start.args.among first.result c.rest-left.result c.only-kept.result
           first.ensures (c.rest-left.ensures.1 first.result first.ensures) c.only-kept.ensures,
     )
-
-pub overflow_cast-here : goal.overflow_cast-here
-overflow_cast-here c = omega (arith, c.lowest-q.ensures.inside)
-
-pub offset_bounds-tops-here : goal.offset_bounds-tops-here
-offset_bounds-tops-here c = omega (arith, c.lowest-q.ensures.inside)
-
-pub bounds-tops-here : goal.bounds-tops-here
-bounds-tops-here c = c.lowest-q.ensures.inside
-
-pub raise-peak-requires : goal.raise-peak-requires
-raise-peak-requires c = c.lowest-q.ensures.inside
-
-pub loop-left-smaller : goal.loop-left-smaller
-loop-left-smaller c = c.rest-left-in-loop-left.ensures.0
 
 pub loop-left-preserved : goal.loop-left-preserved
 loop-left-preserved c =

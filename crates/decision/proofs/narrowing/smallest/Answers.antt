@@ -5,12 +5,6 @@ use Rattle.decision.specs.Narrowing.{on_fraction, compared_fractions, fraction}
 use Rattle.decision.proofs.NarrowingLaws.{fractions_ordered, passed_start, passed_value, passed_all}
 use Rattle.decision.proofs.narrowing.smallest.Goals as goal
 
-pub only-kept-requires : goal.only-kept-requires
-only-kept-requires c = c.lowest-p.ensures.inside
-
-pub fraction_at-x-requires : goal.fraction_at-x-requires
-fraction_at-x-requires c = c.lowest-p.ensures.inside
-
 pub loop-left-init : goal.loop-left-init
 loop-left-init c =
     let start = c in
@@ -22,15 +16,6 @@ loop-left-init c =
       passed_start (on_fraction used budgets) (fractions_ordered used budgets) start.args.among first.result c.rest-left.result
           c.only-kept.result first.ensures (c.rest-left.ensures.1 first.result first.ensures) c.only-kept.ensures,
     )
-
-pub fraction_at-y-requires : goal.fraction_at-y-requires
-fraction_at-y-requires c = c.lowest-q.ensures.inside
-
-pub lower-front-requires : goal.lower-front-requires
-lower-front-requires c = c.lowest-q.ensures.inside
-
-pub loop-left-smaller : goal.loop-left-smaller
-loop-left-smaller c = c.rest-left-in-loop-left.ensures.0
 
 pub loop-left-preserved : goal.loop-left-preserved
 loop-left-preserved c =

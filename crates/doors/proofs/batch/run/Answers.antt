@@ -1,10 +1,7 @@
-use mathlib.Core.Path.{sym, ap, ◌∙◌}
-use Rattle.refusals.specs.Refusals.{outcome_of}
 use Rattle.model.specs.Lent.{Lent, lent}
 use Rattle.model.specs.Arrays.{columns}
 use Rattle.doors.specs.Doors.{Sizes}
-use Rattle.doors.specs.Inner.{Room}
-use Rattle.doors.proofs.Lending.{room, ran_no, ran_yes}
+use Rattle.doors.proofs.Lending.{ran_no, ran_yes}
 use Rattle.doors.proofs.batch.run.Goals as goal
 use Rattle.doors.proofs.batch.run.Goals.{After-refused_state-outcome}
 
@@ -16,18 +13,6 @@ given c =
 
 lengths : (c : After-refused_state-outcome) → Sizes (given c)
 lengths c = let z = c.sized.ensures in record { used = z.0; queue = z.1 }
-
-ready_room : (c : After-refused_state-outcome)
-    → Room c.settings_in-s.result (given c).used (given c).threads (given c).queue
-ready_room c =
-    let z = c.sized.ensures in
-    let x = given c in
-    room c.settings_in-s.result x.settings x.shares x.used x.threads x.queue c.settings_in-s.ensures z.0 z.1 z.2
-
-pub enter-k-requires : goal.enter-k-requires
-enter-k-requires c =
-    let t = (goal.at.enter-k-requires c).After-refused_state-outcome in
-    (ready_room t, sym t.refused_state-outcome.ensures ∙ ap outcome_of c.in-Accepted.is)
 
 pub returns-in-Refused : goal.returns-in-Refused
 returns-in-Refused c =

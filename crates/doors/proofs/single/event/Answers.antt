@@ -1,11 +1,9 @@
-use mathlib.Core.Path.{sym, ap, ◌∙◌}
-use Rattle.refusals.specs.Refusals.{outcome_of}
+use mathlib.Core.Path.{ap}
 use Rattle.model.specs.Lent.{Lent, lent}
 use Rattle.model.specs.Answers.{Line}
 use Rattle.model.specs.Arrays.{columns}
 use Rattle.doors.specs.Doors.{Sizes}
-use Rattle.doors.specs.Inner.{Room}
-use Rattle.doors.proofs.Lending.{room, answered_no, answered_yes}
+use Rattle.doors.proofs.Lending.{answered_no, answered_yes}
 use Rattle.doors.proofs.single.event.Goals as goal
 use Rattle.doors.proofs.single.event.Goals.{After-refused_state-outcome}
 
@@ -17,18 +15,6 @@ given c =
 
 lengths : (c : After-refused_state-outcome) → Sizes (given c)
 lengths c = let z = c.sized.ensures in record { used = z.0; queue = z.1 }
-
-ready_room : (c : After-refused_state-outcome)
-    → Room c.settings_in-s.result (given c).used (given c).threads (given c).queue
-ready_room c =
-    let z = c.sized.ensures in
-    let x = given c in
-    room c.settings_in-s.result x.settings x.shares x.used x.threads x.queue c.settings_in-s.ensures z.0 z.1 z.2
-
-pub enter-reply-requires : goal.enter-reply-requires
-enter-reply-requires c =
-    let t = (goal.at.enter-reply-requires c).After-refused_state-outcome in
-    (ready_room t, sym t.refused_state-outcome.ensures ∙ ap outcome_of c.in-Accepted.is)
 
 pub returns-in-Refused : goal.returns-in-Refused
 returns-in-Refused c =

@@ -1,9 +1,6 @@
-use native.Mathlib.Omega.{arith}
-use native.Mathlib.Nat.{mul-le-mul}
-use Rattle.sheet.specs.Settings.{Limits}
 use Rattle.model.specs.Lent.{Lent, lent}
 use Rattle.model.specs.Arrays.{columns}
-use Rattle.doors.proofs.Starting.{begun_sheet, within, sixteen, begun_short, begun_yes}
+use Rattle.doors.proofs.Starting.{begun_sheet, begun_short, begun_yes}
 use Rattle.doors.proofs.start.start.Goals as goal
 use Rattle.doors.proofs.start.start.Goals.{After-read_sheet-reading}
 
@@ -13,24 +10,11 @@ given c =
     let a = c.args in
     lent a.settings.now a.shares.now a.used.now a.clock.now (columns a.exists.now a.ready.now a.partitions.now a.priorities.now a.masks.now a.policies.now a.slices.now) a.queue.now a.history.now
 
-pub overflow_mul-rows : goal.overflow_mul-rows
-overflow_mul-rows c =
-    let t = (goal.at.overflow_mul-rows c).After-read_sheet-reading in
-    let r = c.read_sheet-reading in
-    let l : Limits r.result.settings = within (given t) c.args.sheet.now r.result.outcome r.result.settings c.in-Accepted.is r.ensures.0 r.ensures.1 in
-    omega (arith, mul-le-mul l.count_high l.window_high)
-
 pub returns-then-history-rows : goal.returns-then-history-rows
 returns-then-history-rows c =
     let t = (goal.at.returns-then-history-rows c).After-read_sheet-reading in
     let r = c.read_sheet-reading in
     begun_short (given t) c.args.sheet.now r.result.outcome r.result.settings c.in-Accepted.is r.ensures.0 r.ensures.1 c.if-history-rows.true
-
-pub begin-requires : goal.begin-requires
-begin-requires c =
-    let t = (goal.at.begin-requires c).After-read_sheet-reading in
-    let r = c.read_sheet-reading in
-    (sixteen (given t) c.args.sheet.now r.result.outcome r.result.settings c.in-Accepted.is r.ensures.0 r.ensures.1, c.if-history-rows.false)
 
 pub returns-in-Refused : goal.returns-in-Refused
 returns-in-Refused c =

@@ -5,21 +5,8 @@ use Rattle.model.specs.Step.{saved}
 use Rattle.event.specs.Bytes.{bytes_of}
 use Rattle.scheduler.specs.Effects.{Applied}
 use Rattle.scheduler.specs.declared.apply.Done.{Done}
-use Rattle.scheduler.proofs.EffectsLaws.{only_tick, only_resume, resumed, can_restart}
+use Rattle.scheduler.proofs.EffectsLaws.{resumed}
 use Rattle.scheduler.proofs.apply.apply.Goals as goal
-
-pub tick-requires : goal.tick-requires
-tick-requires c = (c.requires, ap kind_number c.in-Tick.is)
-
-pub restart-a-requires : goal.restart-a-requires
-restart-a-requires c =
-    let a = c.args in
-    can_restart a.settings a.used.now a.c (columns a.exists.now a.ready.now a.partitions.now a.priorities.now a.masks.now a.policies.now a.slices.now) a.queue.now a.history.now a.budgets.now a.tops.now a.firsts.now a.sets a.event c.requires
-
-pub work-requires : goal.work-requires
-work-requires c =
-    let y = c.args.event.action in
-    (c.requires, (λ e. c.in_default.not-Tick (only_tick y e)), (λ e. c.in_default.not-Resume (only_resume y e)))
 
 pub returns-in-Resume : goal.returns-in-Resume
 returns-in-Resume c =

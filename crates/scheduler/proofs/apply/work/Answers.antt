@@ -1,14 +1,7 @@
 use mathlib.Core.Path.{refl}
-use native.Mathlib.Omega.{arith}
 use Rattle.model.specs.Arrays.{columns}
 use Rattle.scheduler.proofs.EffectsLaws.{inside, payable, able, followed, applied}
 use Rattle.scheduler.proofs.apply.work.Goals as goal
-
-pub overflow_cast-home : goal.overflow_cast-home
-overflow_cast-home c =
-    let a = c.args in
-    let g = c.requires in
-    omega (arith, inside a.settings a.used.now a.c (columns a.exists.now a.ready.now a.partitions.now a.priorities.now a.masks.now a.policies.now a.slices.now) a.queue.now a.history.now a.budgets.now a.tops.now a.firsts.now a.sets a.event g.0 g.1 g.2)
 
 pub bounds-partitions-t : goal.bounds-partitions-t
 bounds-partitions-t c =

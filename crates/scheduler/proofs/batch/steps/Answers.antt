@@ -19,9 +19,6 @@ loop-i-init c =
     let e = a.events.now in
     (omega arith, nothing_taken v e, nothing_written v e a.out.now, c.requires.0)
 
-pub step-answer-requires : goal.step-answer-requires
-step-answer-requires c = c.loop-i.invariant.3
-
 pub loop-i-preserved : goal.loop-i-preserved
 loop-i-preserved c =
     let p = c.loop-i in
