@@ -1,8 +1,8 @@
 """The edits that must be refused, crates/*/must-fail/*.edit, as the faults that they hold.
 
-Beside the replacements that the prover makes (file:, old:, new:) an edit has for each fault `breaks:` and the place where the proof must break:
+Beside the replacements that the prover makes (file:, old:, new:) an edit has for each fault `# breaks:` and the place where the proof must break:
 a function, whose own proof it is, or a file of laws; with `at` and a claim of that proof, where its first error is at a claim that still holds and
-only wants another proof. An edit of one fault has the fault's name. An edit of several, each in a function of its own, has `fault:` and its name
+only wants another proof. An edit of one fault has the fault's name. An edit of several, each in a function of its own, has `# fault:` and its name
 before each: one check tries them all. (A proof rests on what its callees promise, which no fault changes, and not on their code.)
 """
 from dataclasses import dataclass, field
@@ -36,7 +36,7 @@ def faults():
     for path in sorted(ROOT.glob("crates/*/must-fail/*.edit")):
         crate, here, file, old = path.parts[-3], [], None, None
         for line in path.read_text().splitlines():
-            word, _, rest = line.partition(":")
+            word, _, rest = line.removeprefix("# ").partition(":")
             rest = rest.removeprefix(" ")
             if word == "fault":
                 here.append(Fault(crate, path.stem, rest))

@@ -10,17 +10,18 @@ must remain in edition 1, in editions-009, or where no edition is stated, in edi
 
 For each run this writes a theorem, that the definitions give just these lines, into a crate of its own in a temporary
 copy of the repository, and has the checker prove that crate. The theorem tests the state before each event, as the doors do; its proof tests
-a state once, by the theorem `tested-once` of crate invariants, and computes the rest.
+a state once, by the theorem `tested_once` of crate invariants, and computes the rest.
 
     tests/vectors.py [NAME ..]    all runs, or the named ones
 """
-import shutil
-import subprocess
 import sys
 import tempfile
 from pathlib import Path
 
 ROOT = Path(__file__).resolve().parent.parent
+sys.path.insert(0, str(ROOT / "tools"))
+from lib import prover  # noqa: E402
+
 VECTORS = ROOT / "tests/vectors"
 
 # what the computation has to look through: every definition of these files that is not an abbreviation
@@ -34,56 +35,51 @@ OPENED = [
 BELOW = ["lists", "refusals", "units", "sheet", "model", "invariants"]
 
 HEAD = """-- Written by tests/vectors.py.
-use Prim.Native.Nat.{ℕ}
-use mathlib.Core.Path.{_≡_, refl, _∙_}
-use mathlib.Core.Bool.{Bool, true, false, cond}
-use mathlib.Core.List.{List, [], _∷_, map}
-use lib.ListN.{length, replicate, length-replicate}
-use lib.Dec.{eqb}
-use borrow.Author.Tests.{eqb-true, le-ltb}
-use native.Mathlib.Omega.{arith}
-use Rattle·sheet.specs.Sheet.{settingsOf, refusedSheet}
-use Rattle·model.specs.State.{wanted}
-use Rattle·model.specs.Step.{Saved}
-use Rattle·model.specs.Run.{Entry, freshState, fresh, run}
-use Rattle·model.specs.Doors.{refusedStart}
-use Rattle·model.specs.Answers.{refusalLine, answerLine, textOf}
-use Rattle·model.proofs.Accepted.{of-fit}
-use Rattle·invariants.specs.Once.{steps}
-use Rattle·invariants.proofs.Answered.{Good}
-use Rattle·invariants.proofs.Fresh.{start-good}
-use Rattle·invariants.proofs.Once.{tested-once}
+use Rattle.std.proofs.Common.{◌≡◌, ℕ, Bool, true, false, cond, List, [], ◌∷◌, map, length, replicate, refl, ◌∙◌, eqb, eqb-true, arith}
+use Rattle.std.proofs.lemmas.Bool.{le-ltb}
+use Rattle.std.proofs.Math.ListN.{length-replicate}
+use Rattle.sheet.specs.Sheet.{settings_of, refused_sheet}
+use Rattle.model.specs.State.{wanted}
+use Rattle.model.specs.Step.{Saved}
+use Rattle.model.specs.Run.{Entry, fresh_state, fresh, run}
+use Rattle.model.specs.Doors.{refused_start}
+use Rattle.model.specs.Answers.{refusal_line, answer_line, text_of}
+use Rattle.model.proofs.Accepted.{of_fit}
+use Rattle.invariants.specs.Once.{steps}
+use Rattle.invariants.proofs.Answered.{Good}
+use Rattle.invariants.proofs.Fresh.{start_good}
+use Rattle.invariants.proofs.Once.{tested_once}
 """
 
 LINES = """
 -- a history that just fits the sheet
 unfoldable rows : List ℕ → List ℕ
-rows sheet = replicate (wanted (freshState (settingsOf sheet))) 0
+rows sheet = replicate (wanted (fresh_state (settings_of sheet))) 0
 
 -- what the desk program prints for a sheet and a list of events, by this run of the events
-unfoldable printedBy : (Saved → List (List ℕ) → List Entry) → List ℕ → List (List ℕ) → List (List ℕ)
-printedBy by sheet events =
-    cond (eqb (refusedSheet sheet) 0)
-    (map (λ e. textOf (answerLine (e .answer))) (by (fresh (settingsOf sheet) (rows sheet)) events))
-    (textOf (refusalLine (refusedSheet sheet)) ∷ [])
+unfoldable printed_by : (Saved → List (List ℕ) → List Entry) → List ℕ → List (List ℕ) → List (List ℕ)
+printed_by by sheet events =
+    cond (eqb (refused_sheet sheet) 0)
+    (map (λ e. text_of (answer_line e.answer)) (by (fresh (settings_of sheet) (rows sheet)) events))
+    (text_of (refusal_line (refused_sheet sheet)) ∷ [])
 
-room : (sheet : List ℕ) → length (rows sheet) ≡ wanted (freshState (settingsOf sheet))
+room : (sheet : List ℕ) → length (rows sheet) ≡ wanted (fresh_state (settings_of sheet))
 unfolding rows
 room sheet = length-replicate _ 0
 
-good : (sheet : List ℕ) → refusedSheet sheet ≡ 0 → Good (settingsOf sheet) (fresh (settingsOf sheet) (rows sheet))
-unfolding refusedStart
+good : (sheet : List ℕ) → refused_sheet sheet ≡ 0 → Good (settings_of sheet) (fresh (settings_of sheet) (rows sheet))
+unfolding refused_start
 good sheet e =
-    start-good sheet (rows sheet) (rw (e, le-ltb (length (rows sheet)) (wanted (freshState (settingsOf sheet))) (omega (arith, room sheet))))
+    start_good sheet (rows sheet) (rw (e, le-ltb (length (rows sheet)) (wanted (fresh_state (settings_of sheet))) (omega (arith, room sheet))))
 
-once : (sheet : List ℕ) (events : List (List ℕ)) → printedBy run sheet events ≡ printedBy steps sheet events
-unfolding printedBy
-once sheet events = go (eqb (refusedSheet sheet) 0) refl
+once : (sheet : List ℕ) (events : List (List ℕ)) → printed_by run sheet events ≡ printed_by steps sheet events
+unfolding printed_by
+once sheet events = go (eqb (refused_sheet sheet) 0) refl
   where
-    go : (z : Bool) → eqb (refusedSheet sheet) 0 ≡ z → printedBy run sheet events ≡ printedBy steps sheet events
+    go : (z : Bool) → eqb (refused_sheet sheet) 0 ≡ z → printed_by run sheet events ≡ printed_by steps sheet events
     go true e =
-        let g : Good (settingsOf sheet) (fresh (settingsOf sheet) (rows sheet)) = good sheet (eqb-true _ _ e) in
-        rw (e, tested-once _ (g .lengths) (of-fit _ _ (g .fit)) events)
+        let g : Good (settings_of sheet) (fresh (settings_of sheet) (rows sheet)) = good sheet (eqb-true _ _ e) in
+        rw (e, tested_once _ g.lengths (of_fit _ _ g.fit) events)
     go false e = rw e
 """
 
@@ -103,7 +99,7 @@ def definitions(crate, file):
 
 
 def theorem(run):
-    folder, name = VECTORS / run, run.replace("-", "")
+    folder, name = VECTORS / run, run.replace("-", "_")
     sheet = (folder / "shares.txt").read_bytes() if (folder / "shares.txt").exists() else b""
     events = (folder / "events.bin").read_bytes()
     expected = (folder / "expected.txt").read_bytes()
@@ -112,47 +108,39 @@ def theorem(run):
     lines = [expected[i:i + 12] for i in range(0, len(expected), 12)]
     opened = " ".join(f"{file}.{d}" for crate, file in OPENED for d in definitions(crate, file))
     return f"""
-abbrev sheet{name} : List ℕ
-sheet{name} = {bytes_list(sheet)}
+abbrev sheet_{name} : List ℕ
+sheet_{name} = {bytes_list(sheet)}
 
-abbrev events{name} : List (List ℕ)
-events{name} = {lists(records)}
+abbrev events_{name} : List (List ℕ)
+events_{name} = {lists(records)}
 
-abbrev lines{name} : List (List ℕ)
-lines{name} = {lists(lines)}
+abbrev lines_{name} : List (List ℕ)
+lines_{name} = {lists(lines)}
 
-computed{name} : printedBy steps sheet{name} events{name} ≡ lines{name}
-unfolding rows printedBy {opened}
-computed{name} = refl
+computed_{name} : printed_by steps sheet_{name} events_{name} ≡ lines_{name}
+unfolding rows printed_by {opened}
+computed_{name} = refl
 
-v{name} : printedBy run sheet{name} events{name} ≡ lines{name}
-v{name} = once sheet{name} events{name} ∙ computed{name}
+v_{name} : printed_by run sheet_{name} events_{name} ≡ lines_{name}
+v_{name} = once sheet_{name} events_{name} ∙ computed_{name}
 """
 
 
 def main():
     names = sys.argv[1:] or sorted(p.name for p in VECTORS.iterdir() if p.is_dir())
+    prover.build(BELOW)
     with tempfile.TemporaryDirectory() as folder:
-        copy = Path(folder)
-        (copy / "target/stamp").mkdir(parents=True)
-        for name in BELOW:
-            shutil.copytree(ROOT / "crates" / name, copy / "crates" / name)
-            if (ROOT / "target/stamp" / name).exists():
-                shutil.copytree(ROOT / f"target/rlib/{name}.rlib", copy / f"target/rlib/{name}.rlib")
-                shutil.copy2(ROOT / "target/stamp" / name, copy / "target/stamp" / name)
-        listed = [line for line in (ROOT / "crates.txt").read_text().splitlines() if line.split(":")[0] in BELOW]
-        (copy / "crates.txt").write_text("\n".join(listed + ["vectors: " + " ".join(BELOW)]) + "\n")
-        crate = copy / "crates/vectors"
-        (crate / "src").mkdir(parents=True)
+        crate = Path(folder)
+        (crate / "src").mkdir()
         (crate / "specs").mkdir()
         (crate / "src/lib.rt").write_text("// No code: runs of another scheduler, computed.\n")
         (crate / "specs/Lib.antt").write_text("pub mod Runs\n")
-        opens = "".join(f"use Rattle·{crate_}.specs.{file}\n" for crate_, file in OPENED)
+        opens = "".join(f"use Rattle.{owner}.specs.{file}\n" for owner, file in OPENED)
         (crate / "specs/Runs.antt").write_text(HEAD + opens + LINES + "".join(theorem(n) for n in names))
-        done = subprocess.run(["rt", "check", "vectors"], cwd=copy, stdout=subprocess.PIPE, stderr=subprocess.STDOUT, text=True)
-        if done.returncode != 0:
-            for line in done.stdout.splitlines():
-                if "error" in line or "NOT PROVED" in line:
+        said, status = prover.check(crate, "vectors", BELOW)
+        if status != 0:
+            for line in said.splitlines():
+                if "error" in line:
                     print(line[:600])
             sys.exit("vectors: the model disagrees with a run")
     print(f"vectors: the model computes the {len(names)} runs as the other scheduler printed them")
