@@ -1,45 +1,162 @@
 #!/usr/bin/env python3
-"""Each fault that must be refused was refused where it must be, and because a fact no longer holds.
+"""Each fault that must be refused is refused where it must be, and because a fact no longer holds.
 
-Reads what the prover said of the edits, target/must-fail/CRATE/EDIT/.log, after `rt ci` or `rt must-fail`. It refuses an edit for any error at
-all; this asks for an error in the proof that the edit names, at the claim that it names or at the first one there, and that it is about a fact.
-That a name or a step of the proof is gone, or that something else is not proved, shows nothing. Where a function has no proof file, the prover's
-own line about it has to say that it finds no proof of what the function ensures.
+    tests/refused.py [CRATE ..]    all crates, or the named ones
+
+The prover refuses an edit for any error at all; this asks for an error in the proof that the edit names, at the goal that it names or at the first
+one there, and that it is about a fact. That a name or a step of the proof is gone, or that something else is not proved, shows nothing. Each fault is
+alone: in code the faulty function is checked beside the right one, with a copy of its proof files (edits.py says how), and a statement with all that
+uses it is a copy of its own (tools/must-break/edited.py). In the faulty function a goal or a step may have another name than in the right one, since
+a name tells what a condition asks: the copy of the proof cites it by that. Where a function has no proof file, or a goal has no answer there, the
+prover's own line has to say that it finds no proof of what the function ensures, or of what a callee requires.
 """
+import json
+import os
 import re
+import shutil
 import sys
+import tempfile
+from concurrent.futures import ThreadPoolExecutor
+from pathlib import Path
 
-from edits import ROOT, faults
+from edits import ROOT, beside, faults, module, place_of, renamed
 
-# an error's file, the claim of the proof that it is about, if it says one, and all that it says
-ERROR = re.compile(r"^(\S+?):\d+:\d+: error: (?:`([^`]*)`: )?(.*(?:\n  .*)*)", re.M)
-# a name or a step of the proof is gone or stands elsewhere, or a proof is of another form: none of that is about a fact
-SHOWS_NOTHING = re.compile(r"has no\s+(`|field)|no occurrence|was not admitted|expected type `tie\.|a dimension \(")
+sys.path.insert(0, str(ROOT / "tools/must-break"))
+from edited import Edit, broken, prover  # noqa: E402
+
+# an error's file below proofs/, the goal that it is about, if it says one, and all that it says
+ERROR = re.compile(r"^\./proofs/(\S+?)/\w+\.antt:\d+:\d+: error: (?:`([^`]*)`: )?(.*(?:\n  .*)*)", re.M)
+# what is said of a function, after the goals that stay open in it
+LINE = re.compile(r"^(?:note: src/\S+: ((?:it is not proved that|`search` found no proof) .*)|fn (\S+): (.*))$", re.M)
+OPEN = re.compile(r"(?:it is not proved that|`search` found no proof) .*?\(`([^`]+)`\)")
+# a name or a step of the proof is gone or stands elsewhere: none of that is about a fact
+SHOWS_NOTHING = re.compile(r"has no\s+(`|field)|\(nearest: |is not in scope|no occurrence|was not admitted|that can be named from here")
+WORD = re.compile(r"[\w'₀-₉]+(?:[-+][\w'₀-₉]+)*")
 
 
-def wrong(fault):
-    """What is wrong with the refusal of a fault, or None."""
-    folder = ROOT / "target/must-fail" / fault.crate / fault.edit
-    log = (folder / ".log").read_text()
-    if not fault.breaks.endswith(".antt"):
-        place = f"proofs/{fault.breaks.replace('::', '/')}/Proof.antt"
-        if not (ROOT / "crates" / fault.crate / place).exists():
-            none = re.search(rf"^fn {fault.crate}::{fault.breaks}: no proof: .*`search` does not close .*`returns", log, re.M)
-            return None if none else f"nothing is said of {fault.breaks}"
-    else:
-        place = fault.breaks
-    for file, claim, text in ERROR.findall(log):
-        if file == str(folder / place) and fault.claim in ("", claim):
-            return f"the first error of {place} shows nothing: {claim}: {text[:200]}" if SHOWS_NOTHING.search(text) else None
-    return f"no error in {place} {fault.claim}"
+def put_beside(crate, tried, folder):
+    """A copy of a crate with each fault's functions beside the right ones, and with copies of the proof that must break."""
+    prover.copy(crate, folder)
+    for number, fault in enumerate(tried):
+        for file, name, text in fault.functions():
+            with open(folder / file, "a") as source:
+                source.write("\n" + renamed(text, name, number))
+            if module(file) + name != fault.breaks:
+                continue
+            proofs = folder / "proofs" / module(file).replace("::", "/") / name
+            if proofs.is_dir():
+                shutil.copytree(proofs, proofs.with_name(beside(name, number)))
+
+
+def names_of(crate, folder):
+    """The names of each function's goals, places and steps, by the function."""
+    flags = ["--generated", str(folder / "names"), "--old-names"]
+    said, status = prover.check(folder, crate, prover.USES[crate], *flags)
+    assert status == 0, f"{crate}: {said[:2000]}"
+    told = json.loads((folder / "names/names.json").read_text())
+    return {key.removeprefix(f"Rattle-{crate}-proofs.").removesuffix(".Lts"): told[key] for key in told}
+
+
+def other_names(right, faulty):
+    """The names that the goals, places and steps of a function have in the faulty one, where that has as many, place by place."""
+    pairs = []
+    for of in (lambda d: [new for _, new in d["needs"]], lambda d: d["places_by_name"], lambda d: [place[2][1] for place in d["places"]]):
+        if len(of(right)) == len(of(faulty)):
+            pairs += zip(of(right), of(faulty))
+    found = {}
+    for one, other in pairs:
+        if one and other:
+            found.setdefault(one, set()).add(other)
+            # in a name that joins several places each begins small
+            found.setdefault(one[0].lower() + one[1:], set()).add(other[0].lower() + other[1:])
+    return {one: others.pop() for one, others in found.items() if len(others) == 1}
+
+
+def cite(crate, fault, number, names, folder):
+    """Has the copy of the proof name the faulty function's goals and steps; gives the present name of the goal that must be open."""
+    path, name = place_of(fault)
+    other = other_names(names[fault.breaks.replace("::", ".")], names[".".join(filter(None, [*path.split("::"), beside(name, number)]))])
+    here = ".".join(["Rattle", crate, "proofs", *filter(None, path.split("::")), name])
+    proofs = folder / "proofs" / path.replace("::", "/") / beside(name, number)
+    for file in proofs.glob("*.antt") if proofs.is_dir() else []:
+        text = re.sub(rf"{re.escape(here)}(?=[.\s;]|$)", beside(here, number), file.read_text())
+        file.write_text(WORD.sub(lambda m: "+".join(other.get(part, part) for part in m[0].split("+")), text))
+    return other.get(fault.goal, fault.goal)
+
+
+def said_of(said, crate):
+    """What the prover said of each function's proof: of each goal with an error or left open, its name and the words."""
+    found, opened = {}, []
+    for path, goal, text in ERROR.findall(said):
+        found.setdefault(path.replace("/", "::"), []).append((goal, text))
+    for note, function, _ in LINE.findall(said):
+        if note:
+            opened.append(note)
+        else:
+            function = function.removeprefix(f"{crate}::")
+            found.setdefault(function, []).extend((m[1], note) for note in opened if (m := OPEN.match(note)))
+            opened = []
+    return found
+
+
+def wrong(errors, place, goal):
+    """What is wrong with a refusal, whose errors in the place of the fault are given; or None."""
+    there = [(g, text) for g, text in errors if goal in ("", g)]
+    if not there:
+        return f"no error in {place} {goal}"
+    if SHOWS_NOTHING.search(there[0][1]):
+        return f"the first error of {place} shows nothing: {there[0][0]}: {there[0][1][:300]}"
+    return None
+
+
+def in_code(crate, tried):
+    """What is wrong with the refusal of each fault in a crate's code."""
+    with tempfile.TemporaryDirectory() as at:
+        folder = Path(at)
+        put_beside(crate, tried, folder)
+        names = names_of(crate, folder)
+        goals = [cite(crate, fault, number, names, folder) for number, fault in enumerate(tried)]
+        places = [f"{path}::{beside(name, n)}".removeprefix("::") for n, (path, name) in enumerate(map(place_of, tried))]
+        flags = [word for place in places for word in ("--only", place)]
+        work = prover.kept([crate], folder / "kept")
+        said, _ = prover.check(folder, crate, prover.USES[crate], *flags, work=work)
+        keep(crate, said)
+        found = said_of(said, crate)
+        return [wrong(found.get(place, []), fault.breaks, goal) for fault, place, goal in zip(tried, places, goals)]
+
+
+def in_statements(crate, tried):
+    """What is wrong with the refusal of each fault in a crate's statements."""
+    edits = [Edit(ROOT / "crates" / crate / "must-fail" / f"{fault.edit}.edit") for fault in tried]
+    said, refused = broken([(edit, crate, edit.breaks) for edit in edits])
+    keep(crate, said)
+    return [None if where else why for where, why in refused]
+
+
+def keep(crate, said):
+    log = ROOT / f"target/refused/{crate}.log"
+    log.parent.mkdir(parents=True, exist_ok=True)
+    log.write_text(said)
 
 
 def main():
-    tried = faults()
-    bad = [(f, why) for f in tried if (why := wrong(f))]
-    for fault, why in bad:
-        print(f"refused: {fault.crate} {fault.label}: {why}")
-    print(f"refused: {len(tried) - len(bad)} of {len(tried)} faults, in {len({(f.crate, f.edit) for f in tried})} edits, where they must be")
+    by_crate = {}
+    for fault in faults():
+        if not sys.argv[1:] or fault.crate in sys.argv[1:]:
+            by_crate.setdefault((fault.crate, fault.in_code()), []).append(fault)
+    prover.build({crate for crate, _ in by_crate if crate in prover.libraries()} | set(prover.below({crate for crate, _ in by_crate})))
+    # those first that take long
+    order = sorted(by_crate, key=lambda key: -len(by_crate[key]) * (1 if key[1] else 2))
+    with ThreadPoolExecutor(int(os.environ.get("RT_JOBS") or os.cpu_count())) as pool:
+        results = dict(zip(order, pool.map(lambda key: (in_code if key[1] else in_statements)(key[0], by_crate[key]), order)))
+    bad = 0
+    for key, tried in by_crate.items():
+        for fault, why in zip(tried, results[key]):
+            bad += bool(why)
+            if why:
+                print(f"refused: {fault.crate} {fault.label}: {why}")
+    tried = [fault for each in by_crate.values() for fault in each]
+    print(f"refused: {len(tried) - bad} of {len(tried)} faults, in {len({(f.crate, f.edit) for f in tried})} edits, where they must be")
     sys.exit(bool(bad))
 
 

@@ -30,6 +30,10 @@ def below(names):
     return [name for name in USES if name in inside]
 
 
+def libraries():
+    return [name for name in USES if (CRATES / name / "src/lib.rt").exists()]
+
+
 def library(name):
     return CRATES / name / "out/rlib" / f"{name}.rlib"
 

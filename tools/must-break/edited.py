@@ -1,16 +1,20 @@
-"""Definitions and statements with a fault in them: an edit applied to a copy of the files in specs/ that it reaches.
+"""Definitions, statements and lemmas with a fault in them: an edit applied to a copy of the files in specs/ and proofs/ that it reaches.
 
 An edit has the lines `file:` and then pairs of `old:` and `new:`, as the prover's own must-fail edits have. In crates/CRATE/must-fail a file is
-named from its crate, in tools/must-break from the root. An edited file takes with it every file of definitions that uses it: all of them are copied
-as modules of a crate of their own, so that one check of that crate tries many edits, and no proof that breaks stands in the way.
+named from its crate, in tools/must-break from the root. An edited file takes with it every file that uses it, definitions and lemmas: all of them are
+copied as modules of a crate of their own, so that one check of that crate tries many edits, and no proof that breaks stands in the way of another.
 """
 import re
-import shutil
-import subprocess
+import sys
+import tempfile
 from pathlib import Path
 
 ROOT = Path(__file__).resolve().parent.parent.parent
-USE = re.compile(r"Rattle·(\w+)(?:·specs\.specs|\.specs)\.(\w+)")
+sys.path.insert(0, str(ROOT / "tools"))
+from lib import prover  # noqa: E402
+
+USE = re.compile(r"Rattle\.(\w+)\.(specs|proofs)\.([A-Z]\w*)")
+ERROR = re.compile(r"^\S*?/?(specs|proofs)/(\w+)/(\w+)/(\w+)\.antt:(\d+:\d+): (error: .*|unsolved .*|.* is not admitted.*)", re.M)
 
 
 class Edit:
@@ -27,9 +31,9 @@ class Edit:
                 old = rest
             elif word == "new":
                 self.pairs.setdefault(file, []).append((old, rest))
-            elif word == "breaks":
+            elif word == "# breaks":
                 self.breaks = rest
-            elif word == "shown":
+            elif word == "# shown":
                 self.shown = rest
         assert self.pairs, f"{path}: no edit"
 
@@ -43,16 +47,30 @@ class Edit:
             text = text[:at] + new + text[at + len(old):]
         return text
 
+    def edited(self):
+        return {module_of(file) for file in self.pairs}
+
+
+def file_of(module):
+    owner, side, name = module
+    return f"crates/{owner}/{side}/{name}.antt"
+
+
+def module_of(file):
+    """A module, (crate, specs or proofs, name), by its file from the root."""
+    _, owner, side, name = Path(file).parts
+    return owner, side, name.removesuffix(".antt")
+
 
 def uses(text, known=()):
-    """The files of definitions that a text uses, by crate and name."""
-    return {(c, m) for c, m in USE.findall(text) if (c, m) in known or (ROOT / f"crates/{c}/specs/{m}.antt").exists()}
+    """The modules that a text uses: of the crates' files, and of those that are known besides."""
+    return {m for m in USE.findall(text) if m in known or (ROOT / file_of(m)).exists()}
 
 
 def modules():
-    """Every file of definitions, by crate and name, with those that it uses."""
-    paths = [p for p in ROOT.glob("crates/*/specs/*.antt") if p.stem != "Lib"]
-    return {(p.parts[-3], p.stem): uses(p.read_text()) for p in paths}
+    """Every file of definitions and of lemmas, with those that it uses."""
+    paths = [p for side in ("specs", "proofs") for p in ROOT.glob(f"crates/*/{side}/*.antt") if p.stem != "Lib" and p.stem[0].isupper()]
+    return {module_of(p.relative_to(ROOT)): uses(p.read_text()) for p in paths}
 
 
 def reached(edit, wanted, graph, below):
@@ -65,9 +83,8 @@ def reached(edit, wanted, graph, below):
             todo += graph[m]
     there = {m for m in inside if m[0] not in below}
     if edit:
-        edited = {(Path(f).parts[1], Path(f).stem) for f in edit.pairs}
-        assert edited <= inside, f"{edit.label}: nothing that is looked at uses the edited file"
-        there |= edited
+        assert edit.edited() <= inside, f"{edit.label}: nothing that is looked at uses the edited file"
+        there |= edit.edited()
     while more := {m for m in inside if m not in there and graph[m] & there}:
         there |= more
     return there
@@ -79,46 +96,76 @@ def name_of(label):
 
 
 class Crate:
-    """A crate of copies, in a repository of its own in a folder, on the crates below it as they were proved."""
+    """A crate of copies in a folder, on the crates below it as they were proved."""
 
     def __init__(self, folder, name, below):
         self.folder, self.name, self.below, self.files = Path(folder), name, below, {}
 
     def rewritten(self, text, copied, group):
         def path(m):
-            owner, module = m.group(1), m.group(2)
-            if (owner, module) in copied:
-                return f"Rattle·{self.name}·specs.specs.{group}.{owner}.{module}"
-            return f"Rattle·{owner}.specs.{module}"
+            owner, side, module = m.groups()
+            return f"Rattle.{self.name}.{side}.{group}.{owner}.{module}" if (owner, side, module) in copied else m.group(0)
         return USE.sub(path, text)
 
-    def add(self, group, owner, module, text, copied):
+    def add(self, group, module, text, copied):
         """A module of a group, copied from a crate, its owner; it uses the copies of its group where there are any."""
-        self.files[(group, owner, module)] = self.rewritten(text, copied, group)
+        self.files[(group, *module)] = self.rewritten(text, copied, group)
 
     def check(self):
         """What the prover says of it, whole."""
-        root = self.folder
-        (root / "target/stamp").mkdir(parents=True)
-        for name in self.below:
-            shutil.copytree(ROOT / "crates" / name, root / "crates" / name)
-            if (ROOT / "target/stamp" / name).exists():
-                shutil.copytree(ROOT / f"target/rlib/{name}.rlib", root / f"target/rlib/{name}.rlib")
-                shutil.copy2(ROOT / "target/stamp" / name, root / "target/stamp" / name)
-        listed = [line for line in (ROOT / "crates.txt").read_text().splitlines() if line.split(":")[0] in self.below]
-        (root / "crates.txt").write_text("\n".join(listed + [f"{self.name}: " + " ".join(self.below)]) + "\n")
-        crate = root / "crates" / self.name
-        (crate / "src").mkdir(parents=True)
-        (crate / "src/lib.rt").write_text("// No code: definitions and statements with faults in them.\n")
+        (self.folder / "src").mkdir(parents=True)
+        (self.folder / "src/lib.rt").write_text("// No code: definitions and statements with faults in them.\n#![tactic(auto)]\n")
         mods = {}
-        for (group, owner, module), text in self.files.items():
-            place = crate / "specs" / group / owner / f"{module}.antt"
+        for (group, owner, side, module), text in self.files.items():
+            place = self.folder / side / group / owner / f"{module}.antt"
             place.parent.mkdir(parents=True, exist_ok=True)
             place.write_text(text)
-            mods.setdefault("Lib", set()).add(group)
-            mods.setdefault(group, set()).add(owner)
-            mods.setdefault(f"{group}/{owner}", set()).add(module)
+            mods.setdefault(f"{side}/Lib", set()).add(group)
+            mods.setdefault(f"{side}/{group}", set()).add(owner)
+            mods.setdefault(f"{side}/{group}/{owner}", set()).add(module)
         for file, inside in mods.items():
-            (crate / "specs" / f"{file}.antt").write_text("".join(f"pub mod {m}\n" for m in sorted(inside)))
-        subprocess.run(["rt", "check", self.name], cwd=root, stdout=subprocess.PIPE, stderr=subprocess.STDOUT)
-        return (root / "target/log" / f"{self.name}.out").read_text()
+            (self.folder / f"{file}.antt").write_text("".join(f"pub mod {m}\n" for m in sorted(inside)))
+        prover.build(self.below)
+        said, _ = prover.check(self.folder, self.name, self.below)
+        return said
+
+
+def errors(said):
+    """What the prover said of each group: its errors as (owner, specs or proofs, module), the place and the words, in their order."""
+    found = {}
+    for side, group, owner, module, place, text in ERROR.findall(said):
+        found.setdefault(group, []).append(((owner, side, module), place, text))
+    return found
+
+
+# that a name or a step of a proof is gone, or stands elsewhere, is about no fact
+SHOWS_NOTHING = re.compile(r"has no\s+(`|field)|\(nearest: |is not in scope|no occurrence|was not admitted|that can be named from here")
+
+
+def broken(tried):
+    """Whether edits break what they must: each is tried on a copy of what uses the edited files, up to the file of a crate that must no longer be
+    proved. Gives what the prover said, and of each edit the place of its first error, or None and what is wrong with that."""
+    below = prover.below(crate for _, crate, _ in tried) + [crate for crate in prover.USES if crate in {c for _, c, _ in tried}]
+    below = list(dict.fromkeys(below))
+    graph, found = modules(), []
+    with tempfile.TemporaryDirectory() as folder:
+        crate = Crate(Path(folder) / "broken", "broken", below)
+        for edit, owner, file in tried:
+            there = reached(edit, [module_of(f"crates/{owner}/{file}")], graph, below)
+            for module in there:
+                crate.add(name_of(edit.label), module, edit.applied(file_of(module)), there)
+        said = crate.check()
+    of = errors(said)
+    for edit, owner, file in tried:
+        here = of.get(name_of(edit.label), [])
+        target = module_of(f"crates/{owner}/{file}")
+        elsewhere = [(file_of(module), place, text) for module, place, text in here if module != target]
+        if not here:
+            found.append((None, f"NOT REFUSED: {owner} {file} is still proved with this edit"))
+        elif elsewhere:
+            found.append((None, "refused first at {}:{}, not at {}: {}".format(*elsewhere[0][:2], file, elsewhere[0][2][:200])))
+        elif SHOWS_NOTHING.search(here[0][2]):
+            found.append((None, f"the first error shows nothing: {here[0][2][:300]}"))
+        else:
+            found.append((f"{owner}/{file}:{here[0][1]}", None))
+    return said, found
