@@ -2,47 +2,47 @@
 """Each faulty definition and each faulty statement is shown to be wrong.
 
 That an edit is refused may only say that a proof follows the text. So for each edit of tools/must-break, and of must-fail in the crates of
-statements, the checker also proves that it is wrong: of a faulty definition, that a run, a place, a tie, a sheet or a number of crate `cases` is
-another than the paper says (the line `shown:` of the edit names it), and of some that a promise is false with it; of a faulty statement, that it is
-false, by a run that is computed (LABEL.refuted, beside the edit). All that an edit reaches is copied into one crate, which must be proved whole. In a
-second crate, of the same proofs on the files as they are, every proof must fail. Every promise, a field of `Promised`, must have such a fault of
-its own.
+statements, the prover also proves that it is wrong: of a faulty definition, that a run, a place, a tie, a sheet or a number of crate `cases` is
+another than the paper says (the line `# shown:` of the edit names it), and of some that a promise is false with it; of a faulty statement, that it is
+false, by a run that is computed (LABEL.refuted, beside the edit or in tests/refuted/CRATE). All that an edit reaches is copied into one crate, which
+must be proved whole. In a second crate, of the same proofs on the files as they are, every proof must fail. Every promise, a field of `Promised`,
+must have such a fault of its own.
 
     tests/refuted.py [LABEL ..]    all of them, or the named ones
 """
+import os
 import re
 import sys
 import tempfile
+from concurrent.futures import ThreadPoolExecutor
 from pathlib import Path
 
 sys.path.insert(0, str(Path(__file__).resolve().parent.parent / "tools/must-break"))
-from edited import ROOT, Crate, Edit, modules, name_of, reached, uses  # noqa: E402
+from edited import ROOT, Crate, Edit, errors, file_of, modules, name_of, prover, reached, uses  # noqa: E402
 
 # the crates whose statements are tried by edits in their must-fail
 STATEMENTS = ["invariants", "guarantee", "sessions"]
 
-# the crates that the copies stand on; of others every file that is looked at is copied
-BELOW = ["lists", "refusals", "units", "sheet", "model", "invariants", "guarantee", "lines", "cases"]
+# the crates that the copies stand on
+BELOW = [name for name in prover.USES if name in {*prover.below(["sessions", "cases"]), "sessions", "cases"}]
 
 # what every refutation starts with
-HEAD = """use Prim.Native.Nat.{ℕ, suc, zero, _+_, _-_, _*_, _^_, _≤_, _<_}
-use mathlib.Core.Path.{_≡_, refl, sym, ap}
-use mathlib.Core.Bool.{Bool, true, false}
-use mathlib.Core.List.{List, [], _∷_, _++_, map}
-use lib.ListN.{length, getD, take, drop, replicate}
-use lib.IntN.{ℤ, pos, negsuc}
-use native.Mathlib.Omega.{arith}
-use Rattle·lists.specs.Lists.{member}
-use Rattle·lists.proofs.Tests.{clash}
-use Rattle·sheet.specs.Sheet.{settingsOf, sheetOf}
-use Rattle·model.specs.Step.{Saved}
-use Rattle·model.specs.Run.{Entry, fresh, run, after}
-use Rattle·cases.specs.Written.{kit, halves, tick, create, ready, block, line, refusal}
-use Rattle·cases.specs.Computed.{lines, remains}
+HEAD = """use Rattle.std.specs.Prelude.{
+  ℕ, suc, zero, ◌+◌, ◌-◌, ◌*◌, ◌^◌, ◌≤◌, ◌<◌, ◌≡◌, refl, Bool, true, false, List, [], ◌∷◌, ◌++◌, map, length, get_or, take, drop, replicate,
+  ℤ, pos, negsuc,
+}
+use Rattle.std.proofs.Common.{sym, ap, arith}
+use Rattle.lists.specs.Lists.{member}
+use Rattle.lists.proofs.Tests.{clash}
+use Rattle.sheet.specs.Sheet.{settings_of, sheet_of}
+use Rattle.model.specs.Step.{Saved}
+use Rattle.model.specs.Run.{Entry, fresh, run, after}
+use Rattle.cases.specs.Written.{kit, halves, tick, create, ready, block, line, refusal}
+use Rattle.cases.specs.Computed.{lines, remains}
 """
 
 # of a faulty definition: what is computed is not what the paper says
-SHOWN = """use Rattle·cases.specs.{file}.{{{test}, {entry}}}
+SHOWN = """use Rattle.cases.specs.{file}.{{{test}, {entry}}}
 
 refuted : {test} {entry} ≡ false
 unfolding remains
@@ -53,43 +53,39 @@ refuted = refl
 def refutations(edit):
     """The proofs that an edit is wrong, as modules."""
     found, beside = {}, edit.path.with_suffix(".refuted")
+    if edit.crate:
+        beside = ROOT / "tests/refuted" / edit.crate / beside.name
     if beside.exists():
         found["Refuted"] = beside.read_text()
     if edit.shown:
         file, entry = edit.shown.split()
         test = {"Runs": "agrees", "Places": "stand", "Ties": "won", "Editions": "told", "Refusals": "agree"}[file]
         found["Shown"] = SHOWN.format(file=file, entry=entry, test=test)
-    assert found, f"{edit.path}: neither a line `shown:` nor {beside.name}"
+    assert found, f"{edit.path}: neither a line `# shown:` nor {beside.name}"
     return found
 
 
-def crate_of(folder, edits, edited):
-    """A crate with a module for each edit, of the files that its refutations look at, with the edit made in them or not."""
+def said_of(folder, edits, edited):
+    """What the prover says of a crate with a module for each edit, of the files that its refutations look at, with the edit made in them or not."""
     crate = Crate(folder, "refuted" if edited else "unrefuted", BELOW)
-    shared = {("refuted", p.stem): HEAD + p.read_text() for p in (ROOT / "tests/refuted").glob("*.txt")}
-    files = modules()
+    shared = {("refuted", "proofs", p.stem): HEAD + p.read_text() for p in (ROOT / "tests/refuted").glob("*.txt")}
+    # lemmas are those of the files as they are
+    files = modules("specs")
     for edit in edits:
-        proofs = {("refuted", name): HEAD + text for name, text in refutations(edit).items()}
+        proofs = {("refuted", "proofs", name): HEAD + text for name, text in refutations(edit).items()}
         texts = shared | proofs
-        graph = files | {m: uses(text, texts) for m, text in texts.items()}
+        graph = files | {m: uses(text, files | texts) for m, text in texts.items()}
         there = reached(edit if edited else None, proofs, graph, BELOW)
-        for owner, module in there:
-            file = f"crates/{owner}/specs/{module}.antt"
-            text = texts.get((owner, module)) or (edit.applied(file) if edited else (ROOT / file).read_text())
-            crate.add(name_of(edit.label), owner, module, text, there)
-    return crate
-
-
-def errors(edit, said):
-    """What the checker said of an edit's refutations, and of what was copied for them."""
-    own = re.compile(rf"^\S*/specs/{name_of(edit.label)}/(\S+?\.antt):\d+:\d+: (error: .*|unsolved .*|.* is not admitted.*)", re.M)
-    return own.findall(said)
+        for module in there:
+            text = texts.get(module) or (edit.applied(file_of(module)) if edited else (ROOT / file_of(module)).read_text())
+            crate.add(name_of(edit.label), module, text, there)
+    return crate.check()
 
 
 def promises():
     """The names of the statements that `Promised` has, by field."""
     text = (ROOT / "crates/sessions/specs/Promised.antt").read_text()
-    return dict(re.findall(r"^  pub ([\w-]+) : \w+\.(\w+)$", text, re.M))
+    return dict(re.findall(r"^  pub (\w+) : \w+\.(\w+)$", text, re.M))
 
 
 def faults():
@@ -115,20 +111,23 @@ def main():
                 refuted.add(claim.group(1))
             else:
                 wrong[edit.label] = "what is refuted is no promise"
-    with tempfile.TemporaryDirectory() as folder:
-        said = crate_of(Path(folder) / "wrong", edits, True).check()
-        (ROOT / "target/refuted.log").write_text(said)
-        for edit in edits:
-            for file, text in errors(edit, said):
-                wrong.setdefault(edit.label, f"not shown wrong: {file}: {text[:400]}")
-        if "logic=proved" not in said and not wrong:
-            sys.exit(f"refuted: the checker says nothing of the faults: {said[-2000:]}")
-        said = crate_of(Path(folder) / "right", edits, False).check()
-        (ROOT / "target/unrefuted.log").write_text(said)
-        for edit in edits:
-            failed = {file for file, _ in errors(edit, said)}
-            if not all(f"refuted/{name}.antt" in failed for name in refutations(edit)):
-                wrong.setdefault(edit.label, "what shows the fault wrong is proved without the fault too")
+    with tempfile.TemporaryDirectory() as folder, ThreadPoolExecutor(int(os.environ.get("RT_JOBS") or 2)) as pool:
+        prover.build(BELOW)
+        faulty = pool.submit(said_of, Path(folder) / "wrong", edits, True)
+        right = pool.submit(said_of, Path(folder) / "right", edits, False)
+        faulty, right = faulty.result(), right.result()
+    (ROOT / "target").mkdir(exist_ok=True)
+    (ROOT / "target/refuted.log").write_text(faulty)
+    (ROOT / "target/unrefuted.log").write_text(right)
+    failed, refused = errors(faulty), errors(right)
+    for edit in edits:
+        for module, place, text in failed.get(name_of(edit.label), []):
+            wrong.setdefault(edit.label, f"not shown wrong: {file_of(module)}:{place}: {text[:400]}")
+        there = {name for (owner, _, name), _, _ in refused.get(name_of(edit.label), []) if owner == "refuted"}
+        if not there >= set(refutations(edit)):
+            wrong.setdefault(edit.label, "what shows the fault wrong is proved without the fault too")
+    if "logic=proved" not in faulty and not wrong:
+        sys.exit(f"refuted: the prover says nothing of the faults: {faulty[-2000:]}")
     for label, why in wrong.items():
         print(f"refuted: {label}: {why}")
     without = [] if sys.argv[1:] else [field for field, name in stated.items() if name not in refuted]

@@ -62,15 +62,16 @@ def module_of(file):
     return owner, side, name.removesuffix(".antt")
 
 
-def uses(text, known=()):
-    """The modules that a text uses: of the crates' files, and of those that are known besides."""
-    return {m for m in USE.findall(text) if m in known or (ROOT / file_of(m)).exists()}
+def uses(text, known):
+    """The modules that a text uses, of those that are known."""
+    return {m for m in USE.findall(text) if m in known}
 
 
-def modules():
-    """Every file of definitions and of lemmas, with those that it uses."""
-    paths = [p for side in ("specs", "proofs") for p in ROOT.glob(f"crates/*/{side}/*.antt") if p.stem != "Lib" and p.stem[0].isupper()]
-    return {module_of(p.relative_to(ROOT)): uses(p.read_text()) for p in paths}
+def modules(*sides):
+    """Every file of these sides, definitions or lemmas, with those of them that it uses."""
+    paths = [p for side in sides for p in ROOT.glob(f"crates/*/{side}/*.antt") if p.stem != "Lib" and p.stem[0].isupper()]
+    texts = {module_of(p.relative_to(ROOT)): p.read_text() for p in paths}
+    return {m: uses(text, texts) for m, text in texts.items()}
 
 
 def reached(edit, wanted, graph, below):
@@ -147,7 +148,7 @@ def broken(tried):
     proved. Gives what the prover said, and of each edit the place of its first error, or None and what is wrong with that."""
     below = prover.below(crate for _, crate, _ in tried) + [crate for crate in prover.USES if crate in {c for _, c, _ in tried}]
     below = list(dict.fromkeys(below))
-    graph, found = modules(), []
+    graph, found = modules("specs", "proofs"), []
     with tempfile.TemporaryDirectory() as folder:
         crate = Crate(Path(folder) / "broken", "broken", below)
         for edit, owner, file in tried:

@@ -357,7 +357,9 @@ def main(landed, names_at):
         path.write_text("\n".join(line for line in lines if line is not None))
     headless = (top / "crates/refuted/specs/OfNone.antt").read_text()
     for path in shown:
-        path.write_text(without((top / f"crates/refuted/specs/{names[path]}.antt").read_text(), headless))
+        # proofs call tactics, and stand in proofs/ now
+        text = (top / f"crates/refuted/specs/{names[path]}.antt").read_text().replace("Rattle.refuted.specs.", "Rattle.refuted.proofs.")
+        path.write_text(without(text, headless))
         if path.parent.name == "must-fail":
             to = ROOT / "tests/refuted" / path.parts[-3] / path.name
             to.parent.mkdir(exist_ok=True)
