@@ -16,6 +16,7 @@ import re
 import shutil
 import sys
 import tempfile
+import time
 from concurrent.futures import ThreadPoolExecutor
 from pathlib import Path
 
@@ -140,13 +141,13 @@ def keep(crate, said):
 
 
 def main():
-    by_crate = {}
+    begin, by_crate = time.monotonic(), {}
     for fault in faults():
         if not sys.argv[1:] or fault.crate in sys.argv[1:]:
             by_crate.setdefault((fault.crate, fault.in_code()), []).append(fault)
     prover.build({crate for crate, _ in by_crate if crate in prover.libraries()} | set(prover.below({crate for crate, _ in by_crate})))
-    # those first that take long
-    order = sorted(by_crate, key=lambda key: -len(by_crate[key]) * (1 if key[1] else 2))
+    # those first that take long: with many faults, or over many crates
+    order = sorted(by_crate, key=lambda key: -len(by_crate[key]) - 3 * len(prover.USES[key[0]]))
     with ThreadPoolExecutor(int(os.environ.get("RT_JOBS") or os.cpu_count())) as pool:
         results = dict(zip(order, pool.map(lambda key: (in_code if key[1] else in_statements)(key[0], by_crate[key]), order)))
     bad = 0
@@ -156,7 +157,8 @@ def main():
             if why:
                 print(f"refused: {fault.crate} {fault.label}: {why}")
     tried = [fault for each in by_crate.values() for fault in each]
-    print(f"refused: {len(tried) - bad} of {len(tried)} faults, in {len({(f.crate, f.edit) for f in tried})} edits, where they must be")
+    edits = len({(fault.crate, fault.edit) for fault in tried})
+    print(f"refused: {len(tried) - bad} of {len(tried)} faults, in {edits} edits, where they must be, in {time.monotonic() - begin:.0f} s")
     sys.exit(bool(bad))
 
 
