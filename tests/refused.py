@@ -145,7 +145,7 @@ def main():
     for fault in faults():
         if not sys.argv[1:] or fault.crate in sys.argv[1:]:
             by_crate.setdefault((fault.crate, fault.in_code()), []).append(fault)
-    prover.build({crate for crate, _ in by_crate if crate in prover.libraries()} | set(prover.below({crate for crate, _ in by_crate})))
+    prover.build({*prover.below({crate for crate, _ in by_crate}), *(crate for crate, of_code in by_crate if not of_code)})
     # those first that take long: with many faults, or over many crates
     order = sorted(by_crate, key=lambda key: -len(by_crate[key]) - 3 * len(prover.USES[key[0]]))
     with ThreadPoolExecutor(int(os.environ.get("RT_JOBS") or os.cpu_count())) as pool:

@@ -30,17 +30,14 @@ def below(names):
     return [name for name in USES if name in inside]
 
 
-def libraries():
-    return [name for name in USES if (CRATES / name / "src/lib.rt").exists()]
-
-
 def library(name):
     return CRATES / name / "out/rlib" / f"{name}.rlib"
 
 
 def build(names):
     """Has rt make the libraries of these crates, and those below them, where they are not there as the files now stand."""
-    for name in names:
+    names = set(names)
+    for name in names - set(below(names)):
         done = subprocess.run(["rt", "lib"], cwd=CRATES / name, capture_output=True, text=True)
         assert done.returncode == 0, f"{name} is not proved: {done.stdout[-1000:]}{done.stderr[-1000:]}"
 
@@ -67,28 +64,20 @@ def kept(crates, folder):
     return folder
 
 
-def words(name, uses, sources=(), root=None):
-    """The words for a check of a crate in the current folder, which builds on the crates of `uses`. Those of `sources` are read as source, from
-    root/NAME."""
-    found = ["--crate-name", name, "src/main.rt" if name in USES and (CRATES / name / "src/main.rt").exists() else "src/lib.rt"]
-    there = below([name]) if name in USES else below(uses) + [u for u in USES if u in uses and u not in below(uses)]
-    found += ["--extern", f"std={KIT}/rlibs/std.rlib", "-L", f"dependency={KIT}/rlibs"]
-    if sources:
-        found += ["--extern", f"core={KIT}/rlibs/core.rlib"]
-    for crate in there:
-        if crate in sources:
-            found += ["--lib", f"{crate}:{','.join(['core', 'std', *USES[crate]])}={root}/{crate}/src/lib.rt"]
-        elif crate in uses or any(crate in USES[source] for source in sources):
-            found += ["--extern", f"{crate}={library(crate)}"]
-    for crate in there:
-        if crate not in sources:
-            found += ["-L", f"dependency={library(crate).parent}"]
+def words(name, uses):
+    """The words for a check of a crate in the current folder, which builds on the crates of `uses`."""
+    root = "src/main.rt" if (CRATES / name / "src/main.rt").exists() else "src/lib.rt"
+    found = ["--crate-name", name, root, "--extern", f"std={KIT}/rlibs/std.rlib", "-L", f"dependency={KIT}/rlibs"]
+    for crate in uses:
+        found += ["--extern", f"{crate}={library(crate)}"]
+    for crate in dict.fromkeys([*below(uses), *uses]):
+        found += ["-L", f"dependency={library(crate).parent}"]
     return found + ["--antt-project", f"{KIT}/rattle/logic/antt-project.json", "--logic-built", f"{KIT}/logic_built"]
 
 
-def check(folder, name, uses, *flags, sources=(), root=None, work=None, jobs=1):
-    """What a check of the crate in a folder says, and how it ends."""
-    said = [str(KIT / "bin/rattle"), "check", *words(name, uses, sources, root), "--jobs", str(jobs), *flags]
+def check(folder, name, uses, *flags, work=None):
+    """What a check of the crate in a folder says, and how it ends. What `work` holds of an earlier check is not checked again."""
+    said = [str(KIT / "bin/rattle"), "check", *words(name, uses), "--jobs", "1", *flags]
     said += ["--incremental", str(work)] if work else []
     done = subprocess.run(said, cwd=folder, stdin=subprocess.DEVNULL, stdout=subprocess.PIPE, stderr=subprocess.STDOUT, text=True, errors="replace")
     return done.stdout, done.returncode
