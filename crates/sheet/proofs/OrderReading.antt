@@ -66,9 +66,9 @@ value_past bs w i h =
 -- ---- all records
 
 -- one that is refused refuses the sheet
-pub formed_not : (bs : List ℕ) (i : ℕ) → i < record_count bs → field_at bs i ≡ wrong_form → records_formed bs ≡ false
+pub formed_not : (bs : List ℕ) (i : ℕ) → i < record_count bs → accepted (field_at bs i) ≡ false → records_formed bs ≡ false
 unfolding records_formed
-formed_not bs i h e = all_fails (λ i. accepted (field_at bs i)) (record_count bs) i h (rw e)
+formed_not bs i h e = all_fails (λ i. accepted (field_at bs i)) (record_count bs) i h e
 
 -- where none is, each says its value
 pub formed_of : (bs : List ℕ) → records_formed bs ≡ true → (i : ℕ) → i < record_count bs → field_at bs i ≡ says (value_at bs i)

@@ -4,7 +4,7 @@ ghost use Rattle.lists.specs.Lists.{total};
 ghost use Rattle.refusals.specs.Refusals.{outcome_of};
 ghost use Rattle.sheet.specs.Limits.{percent_at, count_fits, window_fits, tick_fits, policy_and_core_fit, edition_fits, refused_numbers};
 
-use refusals::{Outcome, Refusal};
+use refusals::Refusal;
 use units::{Cycles, Percent, Ticks};
 
 // "1 to 16 partitions."
@@ -53,28 +53,28 @@ pub fn limits_of(
     edition: u32,
     stated: u8,
     sum: u64,
-) -> Outcome
+) -> Result<(), Refusal>
     ensures { outcome_of result ≡ refused_numbers count window.0 tick.0 policy core edition stated sum }
 {
     if !count_fits(count) {
-        return Outcome::Refused(Refusal::Count);
+        return Err(Refusal::Count);
     }
     if !window_fits(window) {
-        return Outcome::Refused(Refusal::Window);
+        return Err(Refusal::Window);
     }
     if !tick_fits(tick) {
-        return Outcome::Refused(Refusal::Tick);
+        return Err(Refusal::Tick);
     }
     if !policy_and_core_fit(policy, core) {
-        return Outcome::Refused(Refusal::PolicyCoreOrEdition);
+        return Err(Refusal::PolicyCoreOrEdition);
     }
     if !edition_fits(edition, stated) {
-        return Outcome::Refused(Refusal::PolicyCoreOrEdition);
+        return Err(Refusal::PolicyCoreOrEdition);
     }
     if sum != 100 {
-        return Outcome::Refused(Refusal::Shares);
+        return Err(Refusal::Shares);
     }
-    Outcome::Accepted
+    Ok(())
 }
 
 // A share in 64 bits.

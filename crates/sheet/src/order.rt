@@ -1,17 +1,10 @@
 // The records of a share sheet in their order: the bytes read into a list of values, and a list of values written.
 ghost use Rattle.std.specs.Prelude.{◌≡◌, true, cond, ◌++◌, ◌<◌, ◌≤◌, ◌*◌, length, get_or, drop, replicate};
 ghost use Rattle.refusals.specs.Refusals.{outcome_of};
-ghost use Rattle.sheet.specs.Order.{letter_at, number_at, head_of, whole_records, records_formed, values_of, records_of};
+ghost use Rattle.sheet.specs.Order.{letter_at, number_at, head_of, whole_records, values_or_refusal, records_of};
 
-use crate::records::{Field, read_record, write_record};
-use refusals::{Outcome, Refusal};
-
-// The values of a sheet's records, 0 where there is none; zeros beside a refusal.
-#[derive(Clone, Copy)]
-pub struct Values {
-    pub outcome: Outcome,
-    pub values: [u32; 21],
-}
+use crate::records::{read_record, write_record};
+use refusals::Refusal;
 
 // The letter of record i, where `head` records stand before the first S: W, C, P, M, E, then S.
 fn letter_at(head: usize, i: usize) -> u8
@@ -62,12 +55,11 @@ pub fn whole_records(bytes: &[u8]) -> bool
     (length % 12 == 0) & (head + 1 <= length / 12) & (length / 12 <= head + 16)
 }
 
-// The values of all records. The paper names the form: each record reads as an enum, value or refusal; let .. else takes out the value or
-// returns the refusal, which is number 2.
-pub fn read_values(bytes: &[u8]) -> Values
+// The values of all records, 0 where there is none. The paper names the form: each record reads as an enum, value or refusal; let .. else takes out
+// the value or returns the refusal, which is number 2.
+pub fn read_values(bytes: &[u8]) -> Result<[u32; 21], Refusal>
     requires { whole_records bytes.now ≡ true }
-    ensures { (outcome_of result.outcome ≡ cond (records_formed bytes.now) 0 2)
-        × (result.values ≡ cond (records_formed bytes.now) (values_of bytes.now) (replicate 21 0)) }
+    ensures { result ≡ values_or_refusal bytes.now }
 {
     let head = head_of(bytes);
     let count = bytes.len() / 12;
@@ -76,23 +68,17 @@ pub fn read_values(bytes: &[u8]) -> Values
     while i < count {
         let at = 12 * i;
         let end = at + 12;
-        let Field::Value(value) = read_record(
+        let Ok(value) = read_record(
             &bytes[at..end],
             letter_at(head, i),
             number_at(head, i),
         ) else {
-            return Values {
-                outcome: Outcome::Refused(Refusal::Form),
-                values: [0u32; 21],
-            };
+            return Err(Refusal::Form);
         };
         values[i] = value;
         i += 1;
     }
-    Values {
-        outcome: Outcome::Accepted,
-        values: values,
-    }
+    Ok(values)
 }
 
 // The first n records that say the values, each written into its part of the buffer. What stands after them stays.

@@ -2,15 +2,10 @@
 ghost use Rattle.std.specs.Prelude.{◌≡◌, ◌<◌, length};
 ghost use Rattle.sheet.specs.Records.{said_by, number_from, framed, field_of, digits_of, record_of};
 
-// What one record of a sheet says: a value, or a refusal. `said_by` in specs/ gives each case the paper's number and value.
-#[derive(Clone, Copy)]
-pub enum Field {
-    Value(u32),
-    Refused,
-}
+use refusals::Refusal;
 
 // The number that up to six digits spell. A comma, a point or any other byte that is no digit is refused.
-fn read_digits(digits: &[u8]) -> Field
+fn read_digits(digits: &[u8]) -> Result<u32, Refusal>
     requires { length digits.now < 7 }
     ensures { said_by result ≡ number_from 0 digits.now }
 {
@@ -19,15 +14,15 @@ fn read_digits(digits: &[u8]) -> Field
     while i < digits.len() {
         let byte = digits[i];
         if byte < b'0' {
-            return Field::Refused;
+            return Err(Refusal::Form);
         }
         if b'9' < byte {
-            return Field::Refused;
+            return Err(Refusal::Form);
         }
         value = value * 10 + ((byte - b'0') as u32);
         i += 1;
     }
-    Field::Value(value)
+    Ok(value)
 }
 
 // The letter, the spaces and the line feed are in their places.
@@ -49,18 +44,18 @@ fn is_framed(record: &[u8], letter: u8) -> bool
 
 // What the record says: its six digits, if the letter and the two-digit number are those that belong there. The paper names the form: a
 // record reads as an enum, value or refusal.
-pub fn read_record(record: &[u8], letter: u8, number: u32) -> Field
+pub fn read_record(record: &[u8], letter: u8, number: u32) -> Result<u32, Refusal>
     requires { length «record».now ≡ 12 }
     ensures { said_by result ≡ field_of «record».now letter number }
 {
     if !is_framed(record, letter) {
-        return Field::Refused;
+        return Err(Refusal::Form);
     }
-    let Field::Value(found) = read_digits(&record[2..4]) else {
-        return Field::Refused;
+    let Ok(found) = read_digits(&record[2..4]) else {
+        return Err(Refusal::Form);
     };
     if found != number {
-        return Field::Refused;
+        return Err(Refusal::Form);
     }
     read_digits(&record[5..11])
 }

@@ -1,10 +1,10 @@
 use mathlib.Core.Path.{◌≡◌, refl, sym, ap, ◌∙◌}
 use mathlib.Core.Bool.{true}
 use native.Mathlib.Omega.{arith}
-use Rattle.refusals.specs.Refusals.{outcome_of}
+use Rattle.refusals.specs.Refusals.{number_of, outcome_of}
 use Rattle.sheet.specs.Order.{whole_records, records_formed}
 use Rattle.sheet.proofs.OrderReading.{whole_of, head_is}
-use Rattle.sheet.proofs.Answers.{refused-number, by-test-2, by-test-0, read_count, read-form, read-formed}
+use Rattle.sheet.proofs.Answers.{refused-number, values-refused, values-read, read_count, read-form, read-formed}
 use Rattle.sheet.proofs.read_sheet.Goals as goal
 
 pub returns-then-not-whole_records : goal.returns-then-not-whole_records
@@ -21,24 +21,21 @@ settings_from-requires c =
     let e = c.head_of-head.ensures in
     (omega arith, omega arith, omega (arith, w.low), omega (arith, w.high))
 
-pub returns-in-Refused : goal.returns-in-Refused
-returns-in-Refused c =
+pub returns-in-Err : goal.returns-in-Err
+returns-in-Err c =
     let bs = c.args.bytes.now in
     let whole : whole_records bs ≡ true = sym c.whole_records.ensures ∙ c.if-not-whole_records.false in
-    let read = c.read_values-read in
-    let refused = c.in-Refused in
-    let test = by-test-2 (records_formed bs) (outcome_of read.result.outcome) read.ensures.0 (refused-number refused.refusal refused.is refl) in
-    let (a, b) = read-form bs whole test.0 in (
-      ap outcome_of (c.zeros_beside-in-Refused.ensures.0 ∙ sym refused.is) ∙ test.1 ∙ sym a,
-      c.zeros_beside-in-Refused.ensures.1 ∙ sym b,
+    let refused = c.in-Err in
+    let (unformed, form) = values-refused bs refused.refusal (sym refused.is ∙ c.read_values.ensures) in
+    let (a, b) = read-form bs whole unformed in (
+      ap outcome_of c.zeros_beside-in-Err.ensures.0 ∙ ap number_of form ∙ sym a,
+      c.zeros_beside-in-Err.ensures.1 ∙ sym b,
     )
 
-pub returns-in-Accepted : goal.returns-in-Accepted
-returns-in-Accepted c =
+pub returns-in-Ok : goal.returns-in-Ok
+returns-in-Ok c =
     let bs = c.args.bytes.now in
     let whole : whole_records bs ≡ true = sym c.whole_records.ensures ∙ c.if-not-whole_records.false in
-    let read = c.read_values-read in
-    let accepted : outcome_of read.result.outcome ≡ 0 = ap outcome_of c.in-Accepted.is in
-    let formed : records_formed bs ≡ true = by-test-0 (records_formed bs) (outcome_of read.result.outcome) read.ensures.0 accepted in
-    read-formed bs read.result.values c.head_of-head.result c.settings_from.result.outcome whole formed read.ensures.1
-    c.head_of-head.ensures c.settings_from.ensures
+    let (formed, values) = values-read bs c.in-Ok.values (sym c.in-Ok.is ∙ c.read_values.ensures) in
+    read-formed bs c.in-Ok.values c.head_of-head.result c.settings_from.result.outcome whole formed values c.head_of-head.ensures
+    c.settings_from.ensures
