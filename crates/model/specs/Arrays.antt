@@ -46,6 +46,13 @@ pub record SameLoan (x y : StateMut) : Type 0 where
   pub queue : y.queue.ghost_name ≡ x.queue.ghost_name
   pub history : y.history.ghost_name ≡ x.history.ghost_name
 
+-- the same numbers are seen
+pub record Seen (x : StateMut) (y : StateRef) : Type 0 where
+  pub used : y.used.now ≡ x.used.now
+  pub threads : columns_seen y ≡ columns_in x
+  pub queue : y.queue.now ≡ x.queue.now
+  pub history : y.history.now ≡ x.history.now
+
 -- the same with another column, or two
 abbrev pub with_flag_columns : Columns → List ℕ → List ℕ → Columns
 with_flag_columns ts e r = columns e r ts.partitions ts.priorities ts.masks ts.policies ts.slices

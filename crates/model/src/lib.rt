@@ -4,6 +4,7 @@
 
 ghost use Rattle.std.specs.Prelude.{◌≡◌};
 ghost use Rattle.model.specs.Answers.{mode_of};
+ghost use Rattle.model.specs.Arrays.{Seen};
 ghost use Rattle.model.specs.Lent.{clock_from, words_of};
 
 use units::{Cycles, Ticks};
@@ -85,6 +86,26 @@ pub struct StateRef<'a> {
     pub slices: &'a [u8; 64],
     pub queue: &'a [u8; 64],
     pub history: &'a [u32],
+}
+
+impl StateMut<'_> {
+    // What is lent to be worked on, lent to be looked at.
+    pub fn seen(&self) -> StateRef<'_>
+        ensures { Seen self.now result }
+    {
+        StateRef {
+            used: &*self.used,
+            exists: &*self.exists,
+            ready: &*self.ready,
+            partitions: &*self.partitions,
+            priorities: &*self.priorities,
+            masks: &*self.masks,
+            policies: &*self.policies,
+            slices: &*self.slices,
+            queue: &*self.queue,
+            history: &*self.history,
+        }
+    }
 }
 
 // The paper's modes; specs/Answers has their numbers.
