@@ -1,9 +1,7 @@
--- The test of the settings, and the number by which a state is refused.
-use Rattle.std.proofs.Common.{◌≡◌, ℕ, ◌*◌, ◌<◌, ◌≤◌, Bool, true, false, List, length, sym, refl, ap, ◌∙◌, arith, le-ltb, lt-ltb}
+-- The number by which a state is refused.
+use Rattle.std.proofs.Common.{◌≡◌, ℕ, ◌*◌, ◌<◌, ◌≤◌, Bool, true, false, ⊤, List, length, Result, Ok, Err, sym, refl, ap, ◌∙◌, arith, le-ltb, lt-ltb}
 use Rattle.refusals.specs.Refusals.{outcome_of}
 use Rattle.refusals.specs.declared.Refusal.{Refusal}
-use Rattle.refusals.specs.declared.Outcome.{Outcome}
-use Rattle.refusals.specs.declared.Outcome.TheVariants.{Accepted, Refused}
 use Rattle.refusals.proofs.Laws.{same_number}
 use Rattle.sheet.specs.Settings.{W, within_limits, refused_settings}
 use Rattle.sheet.specs.declared.Settings.{Settings}
@@ -12,20 +10,6 @@ use Rattle.model.specs.Arrays.{Columns}
 use Rattle.model.specs.declared.Clock.{Clock}
 use Rattle.model.specs.Lent.{refused_arrays}
 use Rattle.soundness.specs.Refused.{sound_in}
-
-pub limits_accepted : (c : Settings) (o : Outcome) → o ≡ Accepted → outcome_of o ≡ refused_settings c → true ≡ within_limits c
-limits_accepted c o e f = sym (not_refused c (sym f ∙ ap outcome_of e))
-
-pub limits_refused : (c : Settings) (o : Outcome) (r : Refusal) → o ≡ Refused r → outcome_of o ≡ refused_settings c → false ≡ within_limits c
-limits_refused c o r e f = go (within_limits c) refl
-  where
-    go : (z : Bool) → within_limits c ≡ z → false ≡ z
-    go true w =
-        let accepted : o ≡ Accepted = same_number o Accepted (f ∙ within_limits_law c w) in
-        let z : ◌≡◌ {A = ℕ} 0 1 = cc in
-        let z' : ⊥ = omega arith in
-        absurd z'
-    go false w = refl
 
 -- ---- what is refused
 

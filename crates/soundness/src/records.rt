@@ -1,8 +1,9 @@
 // The threads' records, which seven lent arrays hold: whether each is sound.
 ghost use Rattle.std.specs.Prelude.{◌≡◌, ◌≤◌, min, max};
-ghost use Rattle.model.specs.Arrays.{columns};
+ghost use Rattle.model.specs.Arrays.{columns_seen};
 ghost use Rattle.soundness.specs.Records.{sound_records, OfAbsent, OfExisting, WrongFlag, WrongSlice, WrongTurn};
 
+use model::StateRef;
 use std::num::wrapping_sub_u8;
 
 // The smaller of two bytes.
@@ -60,18 +61,9 @@ fn wrong_turn(exists: u8, policy: u8, slice: u8) -> u8
 // all zero", and each flag and each policy 0 or 1. One pass without branches, on bytes alone, so that it can be done for several threads at a
 // time: what is tested of all threads is joined in three bytes. A flag or a policy above 1 makes nothing of the others certain, but it shows by
 // itself.
-pub fn sound_threads(
-    exists: &[u8; 64],
-    ready: &[u8; 64],
-    partitions: &[u8; 64],
-    priorities: &[u8; 64],
-    masks: &[u8; 64],
-    policies: &[u8; 64],
-    slices: &[u8; 64],
-    count: u8,
-) -> bool
+pub fn sound_threads(state: StateRef<'_>, count: u8) -> bool
     requires { 1 ≤ count }
-    ensures { result ≡ sound_records count (columns exists.now ready.now partitions.now priorities.now masks.now policies.now slices.now) }
+    ensures { result ≡ sound_records count (columns_seen state.entry) }
 {
     let mut rest: u8 = 0;
     let mut least: u8 = 255;
@@ -79,13 +71,13 @@ pub fn sound_threads(
     let mut t: u32 = 0;
     while t < 64 {
         let at = t as usize;
-        let e = exists[at];
-        let r = ready[at];
-        let p = partitions[at];
-        let n = priorities[at];
-        let m = masks[at];
-        let o = policies[at];
-        let l = slices[at];
+        let e = state.exists[at];
+        let r = state.ready[at];
+        let p = state.partitions[at];
+        let n = state.priorities[at];
+        let m = state.masks[at];
+        let o = state.policies[at];
+        let l = state.slices[at];
         let wrong = of_absent(e, r | p | n | m) | wrong_turn(e, o, l);
         rest = rest | (wrong_flag(e | r | o) | wrong);
         least = smaller(least, of_existing(e, m));

@@ -1,29 +1,27 @@
--- `refused_state` is the number by which a state is refused.
-use Rattle.std.proofs.Common.{sym, ◌∙◌, arith}
-use Rattle.model.specs.Arrays.{columns}
-use Rattle.soundness.proofs.Limits.{refused_settings_law, refused_short, refused_sound, refused_unsound}
+use Rattle.std.proofs.Common.{rules, ◌≡◌, ◌*◌, ◌≤◌, true, length, if◌then◌else◌, nat_lt, ℕ, ◌+◌, ◌-◌, ◌<◌, ◌/◌, ◌%◌, Bool, false, nat_eq, List, [], ◌∷◌, ◌++◌, slice_index_or, slice_set, bit_and, bit_or, Fits, w8, w32, w64, Bor, MutBor}
+use Rattle.refusals.specs.Refusals.{outcome_of}
+use Rattle.sheet.specs.Settings.{W, within_limits}
+use Rattle.model.specs.Arrays.{columns_seen}
+use Rattle.model.specs.Lent.{refused_arrays}
+use Rattle.soundness.specs.Refused.{rest_zero, running_fits, sound_in}
 use Rattle.soundness.proofs.refused_state.Goals as goal
 
-pub returns-then-not-within_limits : goal.returns-then-not-within_limits
-returns-then-not-within_limits c =
-    let a = c.args in
-    refused_settings_law a.settings a.used.now a.clock (columns a.exists.now a.ready.now a.partitions.now a.priorities.now a.masks.now a.policies.now a.slices.now) a.queue.now a.history.now
-    (sym c.within_limits.ensures ∙ c.if-not-within_limits.true)
+-- src/lib.rt:85:9
+pub returns-then-is_err : goal.returns-then-is_err
+returns-then-is_err c = ?
 
-pub returns-then-history-wanted : goal.returns-then-history-wanted
-returns-then-history-wanted c =
-    let a = c.args in
-    refused_short a.settings a.used.now a.clock (columns a.exists.now a.ready.now a.partitions.now a.priorities.now a.masks.now a.policies.now a.slices.now) a.queue.now a.history.now
-    (sym c.within_limits.ensures ∙ c.if-not-within_limits.false) c.if-history-wanted.true
+-- src/lib.rt:89:9
+pub returns-then-state-wanted : goal.returns-then-state-wanted
+returns-then-state-wanted c = ?
 
-pub returns-then-sound : goal.returns-then-sound
-returns-then-sound c =
-    let a = c.args in
-    refused_sound a.settings a.used.now a.clock (columns a.exists.now a.ready.now a.partitions.now a.priorities.now a.masks.now a.policies.now a.slices.now) a.queue.now a.history.now
-    (sym c.within_limits.ensures ∙ c.if-not-within_limits.false) c.sound.result (omega (arith, c.if-history-wanted.false)) c.sound.ensures c.if-sound.true
+-- src/lib.rt:91:9
+pub sound-requires : goal.sound-requires
+sound-requires c = ?
 
+-- src/lib.rt:92:9
+pub returns-then-not-sound : goal.returns-then-not-sound
+returns-then-not-sound c = ?
+
+-- src/lib.rt:81:1
 pub returns : goal.returns
-returns c =
-    let a = c.args in
-    refused_unsound a.settings a.used.now a.clock (columns a.exists.now a.ready.now a.partitions.now a.priorities.now a.masks.now a.policies.now a.slices.now) a.queue.now a.history.now
-    (sym c.within_limits.ensures ∙ c.if-not-within_limits.false) c.sound.result (omega (arith, c.if-history-wanted.false)) c.sound.ensures c.if-sound.false
+returns c = ?

@@ -1,7 +1,7 @@
 use Rattle.std.proofs.Common.{◌≡◌, ℕ, ap, ◌∙◌, arith, lt-ltb}
 use Rattle.lists.specs.Lists.{all, below}
 use Rattle.lists.proofs.Loops.{all_next}
-use Rattle.model.specs.Arrays.{columns}
+use Rattle.model.specs.Arrays.{columns_seen}
 use Rattle.soundness.proofs.Clauses.{fine, fine_more, fine_all}
 use Rattle.soundness.proofs.records.sound_threads.Goals as goal
 
@@ -16,7 +16,7 @@ loop-t-preserved c =
     let flagged = c.wrong_flag in
     let existing = c.of_existing in
     let a = c.args in
-    let ts = columns a.exists.now a.ready.now a.partitions.now a.priorities.now a.masks.now a.policies.now a.slices.now in (
+    let ts = columns_seen a.state in (
       omega (arith, c.loop-t-test.true),
       rw (c.larger-most.ensures, c.smaller-least.ensures)
           (fine_more a.count ts turn.t turn.rest turn.least turn.most c.of_absent.result existing.result turned.result flagged.result
@@ -28,6 +28,6 @@ pub returns : goal.returns
 returns c =
     let a = c.args in
     let turn = c.loop-t in
-    let ts = columns a.exists.now a.ready.now a.partitions.now a.priorities.now a.masks.now a.policies.now a.slices.now in
+    let ts = columns_seen a.state in
     let e : turn.t ≡ 64 = omega arith in
     turn.invariant.1 ∙ ap (λ (k : ℕ). all (fine a.count ts) (below k)) e ∙ fine_all a.count ts
