@@ -2,8 +2,10 @@
 // and gives those of it that none is better than; nothing here knows of modes, and those that are equal stay in the set.
 ghost use Rattle.std.specs.Prelude.{◌≢◌, ◌≡◌, ℕ, ◌<◌, get_or};
 ghost use Rattle.units.specs.Units.{compare_numbers};
+ghost use Rattle.decision.specs.Leads.{tops_of};
 ghost use Rattle.decision.specs.Narrowing.{Narrowed, OneMore, on_set, on_priority, on_fraction, fraction, compared_fractions};
 
+use crate::leads::Lead;
 use units::{Comparison, Cycles, Fraction};
 
 // Partitions that are level, and their top priority.
@@ -53,14 +55,14 @@ fn raise(k: Peak, p: u8, top: u16) -> Peak
 }
 
 // Those of a set whose top priority is highest.
-pub fn highest(tops: &[u16; 16], among: u16) -> u16
+pub fn highest(leads: &[Lead; 16], among: u16) -> u16
     requires { among ≢ 0 }
-    ensures { Narrowed (on_priority tops.now) among result }
+    ensures { Narrowed (on_priority (tops_of leads.now)) among result }
 {
     let p = sets::lowest(among);
     let at = p as usize;
     let kept = sets::only(p);
-    let top = tops[at];
+    let top = leads[at].top;
     let mut peak = Peak {
         kept: kept,
         top: top,
@@ -70,7 +72,7 @@ pub fn highest(tops: &[u16; 16], among: u16) -> u16
         let q = sets::lowest(left);
         left = sets::rest(left);
         let here = q as usize;
-        let level = tops[here];
+        let level = leads[here].top;
         peak = raise(peak, q, level);
     }
     peak.kept
