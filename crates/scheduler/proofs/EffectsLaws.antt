@@ -108,7 +108,7 @@ charge_used_length : (v : Saved) (stamp : ℕ) → length (charge v stamp).state
 unfolding charge
 charge_used_length v stamp = used_length v.state (billed v.state) (elapsed_of stamp v.state.stamp)
 
-module _ (c : Settings) (u : List ℕ) (k : Clock) (ts : Columns) (q h budgets tops firsts : List ℕ) (sets : Sets) (x : Event)
+module _ {c : Settings} {u : List ℕ} {k : Clock} {ts : Columns} {q h budgets tops firsts : List ℕ} {sets : Sets} {x : Event}
     (g : Ready c u k ts q h budgets tops firsts sets x) where
   abbrev p : List ℕ
   p = ts.partitions

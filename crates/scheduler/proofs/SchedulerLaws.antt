@@ -71,7 +71,7 @@ module _ (s : State) (h b : List ℕ) where
   unfolding answer
   answer_zero e = rw e
 
-module _ (c : Settings) (u : List ℕ) (k : Clock) (ts : Columns) (q h budgets tops firsts : List ℕ) (sets : Sets) (set : ℕ)
+module _ {c : Settings} {u : List ℕ} {k : Clock} {ts : Columns} {q h budgets tops firsts : List ℕ} {sets : Sets} {set : ℕ}
     (g : Whole c u k ts q h budgets tops firsts sets set) where
   abbrev s : State
   s = state_of c u k ts q

@@ -8,7 +8,8 @@ ghost use Rattle.accounts.specs.Solvency.{Reweighed};
 ghost use Rattle.scheduler.specs.Effects.{saved_of, ReadyIn, AppliedIn, Ticking, Ticked};
 
 use accounts::window;
-use decision::kept::{Cache, ReadyQueue};
+use decision::kept::Cache;
+use decision::leads::ReadyQueue;
 use event::Event;
 use event::kinds::Action;
 use model::{Clock, StateMut};
