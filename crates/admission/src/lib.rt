@@ -6,12 +6,12 @@ ghost use Rattle.refusals.specs.Refusals.{outcome_of};
 ghost use Rattle.model.specs.Event.{well_formed, stamp_of};
 ghost use Rattle.event.specs.Kinds.{kind_number};
 ghost use Rattle.event.specs.Bytes.{bytes_of};
-ghost use Rattle.admission.specs.Tests.{late, create_refused, ready_refused, block_refused, other_refused, Refuses, Formed, RefusesAll};
+ghost use Rattle.admission.specs.Tests.{late, create_refused, readiness_refused, other_refused, Refuses, Formed, RefusesAll, AcceptsAs};
 
+use event::Event;
 use event::kinds::Action;
-use event::{Decoded, Event};
 use model::Clock;
-use refusals::{Outcome, Refusal};
+use refusals::Refusal;
 use sheet::Settings;
 use threads::tasks::ROUND_ROBIN;
 use units::Cycles;
@@ -46,64 +46,46 @@ fn refused_create(
     partition: u8,
     mask: u8,
     policy: u8,
-) -> Outcome
+) -> Result<(), Refusal>
     ensures { outcome_of result ≡ create_refused exists.now count t partition mask policy }
 {
     if 64 <= t {
-        return Outcome::Refused(Refusal::Thread);
+        return Err(Refusal::Thread);
     }
-    let at = t as usize;
-    if exists[at] == 1 {
-        return Outcome::Refused(Refusal::Thread);
+    if exists[t as usize] == 1 {
+        return Err(Refusal::Thread);
     }
     if (count <= partition as u32) | (mask == 0) | (ROUND_ROBIN < policy) {
-        return Outcome::Refused(Refusal::Partition);
+        return Err(Refusal::Partition);
     }
-    Outcome::Accepted
+    Ok(())
 }
 
-// A ready: 11 for one that does not exist, 13 for one that is ready.
-fn refused_ready(exists: &[u8; 64], ready: &[u8; 64], t: u8) -> Outcome
-    ensures { outcome_of result ≡ ready_refused exists.now ready.now t }
-{
-    if 64 <= t {
-        return Outcome::Refused(Refusal::Thread);
-    }
-    if missing(exists, t) {
-        return Outcome::Refused(Refusal::Thread);
-    }
-    let at = t as usize;
-    if ready[at] == 1 {
-        return Outcome::Refused(Refusal::Readiness);
-    }
-    Outcome::Accepted
-}
-
-// A block: 11 for one that does not exist, 13 for one that is not ready.
-fn refused_block(exists: &[u8; 64], ready: &[u8; 64], t: u8) -> Outcome
-    ensures { outcome_of result ≡ block_refused exists.now ready.now t }
-{
-    if 64 <= t {
-        return Outcome::Refused(Refusal::Thread);
-    }
-    if missing(exists, t) {
-        return Outcome::Refused(Refusal::Thread);
-    }
-    let at = t as usize;
-    if ready[at] != 1 {
-        return Outcome::Refused(Refusal::Readiness);
-    }
-    Outcome::Accepted
-}
-
-// A set priority or an end: 11 for one that does not exist.
-fn refused_other(exists: &[u8; 64], t: u8) -> Outcome
+// 11 for a thread that does not exist.
+fn named(exists: &[u8; 64], t: u8) -> Result<(), Refusal>
     ensures { outcome_of result ≡ other_refused exists.now t }
 {
     if missing(exists, t) {
-        return Outcome::Refused(Refusal::Thread);
+        return Err(Refusal::Thread);
     }
-    Outcome::Accepted
+    Ok(())
+}
+
+// A ready, of which the flag is asked to be 0, or a block, of which it is asked to be 1: 11 for a thread that does not exist, 13 for one whose
+// flag is another one.
+fn refused_readiness(
+    exists: &[u8; 64],
+    ready: &[u8; 64],
+    t: u8,
+    wanted: bool,
+) -> Result<(), Refusal>
+    ensures { outcome_of result ≡ readiness_refused exists.now ready.now t wanted }
+{
+    named(exists, t)?;
+    if (ready[t as usize] == 1) != wanted {
+        return Err(Refusal::Readiness);
+    }
+    Ok(())
 }
 
 // The first refusal that applies to an event of a known form.
@@ -113,19 +95,15 @@ fn refused_action(
     ready: &[u8; 64],
     c: Clock,
     event: Event,
-) -> Outcome
+) -> Result<(), Refusal>
     requires { (well_formed (bytes_of event) ≡ true) × (event.stamp ≡ stamp_of (bytes_of event)) }
-    ensures { Refuses settings c exists.now ready.now (bytes_of event) result }
+    ensures { Refuses settings c exists.now ready.now (bytes_of event) (outcome_of result) }
 {
-    let since = c.since;
-    let tick = settings.tick;
     let t = event.thread;
-    let kind = event.action;
-    if too_long(kind, event.stamp, c.stamp, since, tick) {
-        return Outcome::Refused(Refusal::Elapsed);
+    if too_long(event.action, event.stamp, c.stamp, c.since, settings.tick) {
+        return Err(Refusal::Elapsed);
     }
-    let action = event.action;
-    match action {
+    match event.action {
         Action::Create => refused_create(
             exists,
             settings.count,
@@ -134,31 +112,26 @@ fn refused_action(
             event.mask,
             event.policy,
         ),
-        Action::Ready => refused_ready(exists, ready, t),
-        Action::Block => refused_block(exists, ready, t),
-        Action::SetPriority => refused_other(exists, t),
-        Action::End => refused_other(exists, t),
-        Action::Unknown | Action::Tick | Action::Resume => Outcome::Accepted,
+        Action::Ready => refused_readiness(exists, ready, t, false),
+        Action::Block => refused_readiness(exists, ready, t, true),
+        Action::SetPriority | Action::End => named(exists, t),
+        Action::Unknown | Action::Tick | Action::Resume => Ok(()),
     }
 }
 
-// The first refusal that applies, in the paper's order: 14 and 9, which decoding found, then 10 to 13. Nothing is asked of the state.
-pub fn refused_event(
+// The event, or the first refusal that applies, in the paper's order: 14 and 9, which decoding found, then 10 to 13. Nothing is asked of the state.
+pub fn admit(
     settings: Settings,
     exists: &[u8; 64],
     ready: &[u8; 64],
     c: Clock,
-    decoded: Decoded,
-) -> Outcome
+    decoded: Result<Event, Refusal>,
+) -> Result<Event, Refusal>
     requires { Formed decoded }
-    ensures { RefusesAll settings c exists.now ready.now decoded result }
+    ensures refused { RefusesAll settings c exists.now ready.now decoded result }
+    ensures accepted { AcceptsAs decoded result }
 {
-    let outcome = decoded.outcome;
-    match outcome {
-        Outcome::Refused(_) => outcome,
-        Outcome::Accepted => {
-            let event = decoded.event;
-            refused_action(settings, exists, ready, c, event)
-        }
-    }
+    let event = decoded?;
+    refused_action(settings, exists, ready, c, event)?;
+    Ok(event)
 }

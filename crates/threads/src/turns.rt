@@ -5,9 +5,7 @@ ghost use Rattle.threads.specs.Turned.{Turning, Turned};
 
 use crate::tasks::ROUND_ROBIN;
 use crate::{queue, tasks};
-
-// The number of no thread: nothing runs.
-const IDLE: u32 = 255;
+use model::IDLE;
 
 // The running thread's task block is counted down, if it is round robin; at zero its slice is refilled, and the thread goes to the tail of the
 // queue. The answer is whether it went there.

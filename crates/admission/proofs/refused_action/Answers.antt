@@ -19,25 +19,13 @@ pub returns-in-Ready : goal.returns-in-Ready
 returns-in-Ready c =
     let a = c.args in
     let l = c.too_long in
-    λ u ts q. c.refused_ready.ensures ∙ at_ready a.settings a.c a.exists.now a.ready.now a.event c.requires.0 c.requires.1 u ts q l.result l.ensures c.if-too_long.false (ap kind_number c.in-Ready.is)
+    λ u ts q. c.refused_readiness.ensures ∙ at_ready a.settings a.c a.exists.now a.ready.now a.event c.requires.0 c.requires.1 u ts q l.result l.ensures c.if-too_long.false (ap kind_number c.in-Ready.is)
 
 pub returns-in-Block : goal.returns-in-Block
 returns-in-Block c =
     let a = c.args in
     let l = c.too_long in
-    λ u ts q. c.refused_block.ensures ∙ at_block a.settings a.c a.exists.now a.ready.now a.event c.requires.0 c.requires.1 u ts q l.result l.ensures c.if-too_long.false (ap kind_number c.in-Block.is)
-
-pub returns-in-SetPriority : goal.returns-in-SetPriority
-returns-in-SetPriority c =
-    let a = c.args in
-    let l = c.too_long in
-    λ u ts q. c.refused_other.ensures ∙ at_priority a.settings a.c a.exists.now a.ready.now a.event c.requires.0 c.requires.1 u ts q l.result l.ensures c.if-too_long.false (ap kind_number c.in-SetPriority.is)
-
-pub returns-in-End : goal.returns-in-End
-returns-in-End c =
-    let a = c.args in
-    let l = c.too_long in
-    λ u ts q. c.refused_other-in-End.ensures ∙ at_end a.settings a.c a.exists.now a.ready.now a.event c.requires.0 c.requires.1 u ts q l.result l.ensures c.if-too_long.false (ap kind_number c.in-End.is)
+    λ u ts q. c.refused_readiness-in-Block.ensures ∙ at_block a.settings a.c a.exists.now a.ready.now a.event c.requires.0 c.requires.1 u ts q l.result l.ensures c.if-too_long.false (ap kind_number c.in-Block.is)
 
 pub returns-in-Unknown : goal.returns-in-Unknown
 returns-in-Unknown c =
