@@ -22,6 +22,7 @@ pub struct Sets {
 }
 
 // What is kept beside a state: each partition's budget and lead, and the sets of partitions.
+#[derive(Drop)]
 pub struct Cache {
     pub budgets: [u32; 16],
     pub leads: [Lead; 16],
