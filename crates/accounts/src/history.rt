@@ -11,8 +11,7 @@ fn charge_row(row: &mut [u32], slot: Ticks, amount: Cycles)
     ensures { row.new ≡ charged slot.0 amount.0 row.old }
 {
     let k = slot.0 as usize;
-    let sum = units::plus(Cycles(row[k]), amount);
-    row[k] = sum.0;
+    row[k] = units::plus(Cycles(row[k]), amount).0;
 }
 
 // An amount is charged to a partition in a slot.
@@ -24,33 +23,18 @@ pub fn charge_slot(history: &mut [u32], window: Ticks, partition: u8, slot: Tick
     ensures { history.new ≡ charged (partition * window.0 + slot.0) amount.0 history.old }
 {
     let w = window.0 as usize;
-    let start = (partition as usize) * w;
-    let end = start + w;
-    charge_row(&mut history[start..end], slot, amount);
+    let start = partition as usize * w;
+    charge_row(&mut history[start..start + w], slot, amount);
 }
 
-// A row is cleared.
-fn clear_row(row: &mut [u32])
-    ensures { row.new ≡ replicate (length row.old) 0 }
-{
-    let mut k: usize = 0;
-    while k < row.len() {
-        row[k] = 0;
-        k += 1;
-    }
-}
-
-// Every row is cleared: each row's part of the lent history is lent on to the function that clears it.
+// Every row is cleared: each row's part of the lent history is lent on to be filled with zeros.
 pub fn clear_rows(history: &mut [u32], window: Ticks, count: u32)
     requires { count * window.0 ≤ length history.old }
     ensures { history.new ≡ replicate (count * window.0) 0 ++ drop (count * window.0) history.old }
 {
     let w = window.0 as usize;
-    let mut p: u32 = 0;
-    while p < count {
-        let start = (p as usize) * w;
-        let end = start + w;
-        clear_row(&mut history[start..end]);
-        p += 1;
+    for p in 0..count {
+        let start = p as usize * w;
+        history[start..start + w].fill(0);
     }
 }
