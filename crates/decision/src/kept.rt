@@ -32,7 +32,7 @@ pub struct Cache {
 impl Cache {
     // All of it, from a state: one pass over the queue, two over the partitions.
     pub fn begin(settings: Settings, used: &[u32; 16], queue: ReadyQueue<'_>) -> Cache
-        requires { Limits settings × LinedOf queue.entry }
+        requires { Limits settings × LinedOf queue }
         ensures { HeldOf settings used.now queue.entry result }
     {
         let mut budgets = [0; 16];
@@ -68,7 +68,7 @@ impl Cache {
 
     // After a tick whose running thread, where its slice ended, went to the tail of the queue.
     pub fn follow_turn(&mut self, queue: ReadyQueue<'_>, running: u32, ended: bool)
-        requires { FollowedTurnOf queue.entry self.old.leads self.old.sets.competing running ended }
+        requires { FollowedTurnOf queue self.old.leads self.old.sets.competing running ended }
         ensures kept { KeptOf queue.entry self.new.leads self.new.sets.competing }
         ensures rest { LeadsAlone self.old self.new }
     {
@@ -86,7 +86,7 @@ impl Cache {
 
     // After the action of an accepted event's kind was done to the threads and the queue; t is its thread, p the partition that it was of.
     pub fn follow(&mut self, ready: &[u8; 64], queue: ReadyQueue<'_>, action: Action, t: u8, p: u8)
-        requires { FollowedOf ready.now queue.entry self.old.leads self.old.sets.competing action t p }
+        requires { FollowedOf ready.now queue self.old.leads self.old.sets.competing action t p }
         ensures kept { KeptOf queue.entry self.new.leads self.new.sets.competing }
         ensures rest { LeadsAlone self.old self.new }
     {
@@ -109,7 +109,7 @@ fn follow_priority(
     competing: u16,
     t: u8,
 ) -> u16
-    requires { (t < 64) × FollowedPriorityOf ready.now queue.entry leads.old competing t }
+    requires { (t < 64) × FollowedPriorityOf ready.now queue leads.old competing t }
     ensures { KeptOf queue.entry leads.new result }
 {
     if ready[t as usize] != 1 {

@@ -51,6 +51,7 @@ fn level_of(priority: u8) -> u16
 }
 
 // After one more thread at the tail.
+#[tactic(auto, unfolding(crate::specs::Leads::raised_by))]
 fn raise(old: Lead, priority: u8, t: u8) -> Lead
     ensures { result ≡ raised_by old priority t }
 {
@@ -72,7 +73,7 @@ fn may_run(partition: u8, mask: u8, p: u8, core: u32) -> bool
 
 // Thread t has joined the queue at its tail. Gives the set of competing partitions.
 pub fn join(leads: &mut [Lead; 16], queue: ReadyQueue<'_>, competing: u16, t: u8) -> u16
-    requires { (t < 64) × (queue.core ≤ 7) × (get_or queue.entry.partitions.now t 0 < 16) }
+    requires { (t < 64) × (queue.core ≤ 7) × (get_or queue.partitions.now t 0 < 16) }
     ensures { JoinsOf queue.entry t leads.old competing leads.new result }
 {
     let at = t as usize;
@@ -87,7 +88,7 @@ pub fn join(leads: &mut [Lead; 16], queue: ReadyQueue<'_>, competing: u16, t: u8
 
 // All leads from the queue, in one pass. Gives the set of competing partitions.
 pub fn build(leads: &mut [Lead; 16], queue: ReadyQueue<'_>) -> u16
-    requires { LinedOf queue.entry }
+    requires { LinedOf queue }
     ensures { KeptOf queue.entry leads.new result }
 {
     *leads = [Lead { top: 0, first: 255 }; 16];
@@ -102,7 +103,7 @@ pub fn build(leads: &mut [Lead; 16], queue: ReadyQueue<'_>) -> u16
 // loop goes over the partitions, the loop in it over the queue; it yields the lead by `break`, at the latest at the queue's end, and at once
 // where a thread has the priority that none is above. Gives the set of competing partitions.
 pub fn renew(leads: &mut [Lead; 16], queue: ReadyQueue<'_>, competing: u16, stale: u16) -> u16
-    requires { LinedOf queue.entry × StaleOf queue.entry leads.old competing stale }
+    requires { LinedOf queue × StaleOf queue leads.old competing stale }
     ensures { KeptOf queue.entry leads.new result }
 {
     let mut set = competing;
@@ -138,7 +139,7 @@ pub fn renew(leads: &mut [Lead; 16], queue: ReadyQueue<'_>, competing: u16, stal
 // Thread t of partition p has left its place in the queue: it is no longer in it, or it went to its tail. Its partition is walked anew only if the
 // thread was its first. Gives the set of competing partitions.
 pub fn leave(leads: &mut [Lead; 16], queue: ReadyQueue<'_>, competing: u16, p: u8, t: u8) -> u16
-    requires { (p < 16) × LinedOf queue.entry × LeftOf queue.entry leads.old competing p t }
+    requires { (p < 16) × LinedOf queue × LeftOf queue leads.old competing p t }
     ensures { KeptOf queue.entry leads.new result }
 {
     if leads[p as usize].first != t {
@@ -151,7 +152,7 @@ pub fn leave(leads: &mut [Lead; 16], queue: ReadyQueue<'_>, competing: u16, p: u
 // it leads. Otherwise the lead stays, for who came level with the first is behind it; only where the first thread itself was lowered the partition is
 // walked anew. Gives the set of competing partitions.
 pub fn change(leads: &mut [Lead; 16], queue: ReadyQueue<'_>, competing: u16, t: u8) -> u16
-    requires { (t < 64) × LinedOf queue.entry × ChangedOf queue.entry leads.old competing t }
+    requires { (t < 64) × LinedOf queue × ChangedOf queue leads.old competing t }
     ensures { KeptOf queue.entry leads.new result }
 {
     let at = t as usize;
