@@ -34,50 +34,7 @@ pub struct Form {
     pub uses: Uses,
 }
 
-// The form that the paper names for "Kind 0 and kinds 8 to 255 are unknown": one decision over the kind byte, with a range, chooses the action
-// and which bytes must be zero.
-impl From<u8> for Form {
-    ghost from_gives = { λ kind form. FormOf kind form };
-
-    fn from(kind: u8) -> Form {
-        match kind {
-            0 | 8..=255 => Form {
-                action: Action::Unknown,
-                uses: UNKNOWN,
-            },
-            1 => Form {
-                action: Action::Tick,
-                uses: NOTHING,
-            },
-            2 => Form {
-                action: Action::Create,
-                uses: ALL,
-            },
-            3 => Form {
-                action: Action::Ready,
-                uses: THREAD,
-            },
-            4 => Form {
-                action: Action::Block,
-                uses: THREAD,
-            },
-            5 => Form {
-                action: Action::SetPriority,
-                uses: PRIORITY,
-            },
-            6 => Form {
-                action: Action::End,
-                uses: THREAD,
-            },
-            7 => Form {
-                action: Action::Resume,
-                uses: NOTHING,
-            },
-        }
-    }
-}
-
-// The column "uses" of the table of kinds.
+// The column "uses" of the table of kinds: an unknown kind uses no byte, and each known kind those of one of these rows.
 const UNKNOWN: Uses = Uses {
     known: false,
     thread: false,
@@ -95,12 +52,33 @@ const THREAD: Uses = Uses {
     ..NOTHING
 };
 
-const PRIORITY: Uses = Uses {
+const THREAD_AND_PRIORITY: Uses = Uses {
     priority: true,
     ..THREAD
 };
 
 const ALL: Uses = Uses {
     place: true,
-    ..PRIORITY
+    ..THREAD_AND_PRIORITY
 };
+
+// The form that the paper names for "Kind 0 and kinds 8 to 255 are unknown": one decision over the kind byte, with a range, chooses the action
+// and which bytes must be zero.
+impl From<u8> for Form {
+    ghost from_gives = { λ kind form. FormOf kind form };
+
+    #[tactic(auto, using(crate::proofs::KindsLaws::unknown_form), unfolding(crate::specs::Kinds::uses_of, model::specs::Event::known, model::specs::Event::names_thread, model::specs::Event::names_place, model::specs::Event::names_priority))]
+    fn from(kind: u8) -> Form {
+        let (action, uses) = match kind {
+            0 | 8..=255 => (Action::Unknown, UNKNOWN),
+            1 => (Action::Tick, NOTHING),
+            2 => (Action::Create, ALL),
+            3 => (Action::Ready, THREAD),
+            4 => (Action::Block, THREAD),
+            5 => (Action::SetPriority, THREAD_AND_PRIORITY),
+            6 => (Action::End, THREAD),
+            7 => (Action::Resume, NOTHING),
+        };
+        Form { action, uses }
+    }
+}

@@ -3,7 +3,7 @@
 
 pub mod kinds;
 
-ghost use Rattle.std.specs.Prelude.{◌≡◌, length};
+ghost use Rattle.std.specs.Prelude.{◌≡◌};
 ghost use Rattle.model.specs.Event.{stamp_of};
 ghost use Rattle.event.specs.Bytes.{formed_by, DecodedFrom};
 
@@ -22,8 +22,8 @@ pub struct Event {
 }
 
 // The kind is known, and every byte that it does not use is zero.
-fn formed(uses: Uses, bytes: &[u8]) -> bool
-    requires { length bytes.now ≡ 12 }
+#[tactic(auto, unfolding(crate::specs::Bytes::formed_by))]
+fn formed(uses: Uses, bytes: &[u8; 12]) -> bool
     ensures { result ≡ formed_by uses bytes.now }
 {
     uses.known
@@ -37,8 +37,8 @@ fn formed(uses: Uses, bytes: &[u8]) -> bool
 }
 
 // The timestamp, low byte first.
-fn stamp_of(bytes: &[u8]) -> u32
-    requires { length bytes.now ≡ 12 }
+#[tactic(auto, unfolding(model::specs::Event::stamp_of))]
+fn stamp_of(bytes: &[u8; 12]) -> u32
     ensures { result ≡ stamp_of bytes.now }
 {
     u32::from_le_bytes([bytes[4], bytes[5], bytes[6], bytes[7]])
@@ -48,20 +48,18 @@ fn stamp_of(bytes: &[u8]) -> u32
 pub fn decode(bytes: &[u8]) -> Result<Event, Refusal>
     ensures { DecodedFrom bytes.now result }
 {
-    if bytes.len() != 12 {
-        return Err(Refusal::Length);
-    }
-    let form = Form::from(bytes[0]);
-    if !formed(form.uses, bytes) {
+    let record: &[u8; 12] = bytes.as_array().ok_or(Refusal::Length)?;
+    let Form { action, uses } = Form::from(record[0]);
+    if !formed(uses, record) {
         return Err(Refusal::Kind);
     }
     Ok(Event {
-        action: form.action,
-        stamp: stamp_of(bytes),
-        thread: bytes[1],
-        partition: bytes[2],
-        priority: bytes[3],
-        mask: bytes[8],
-        policy: bytes[9],
+        action,
+        stamp: stamp_of(record),
+        thread: record[1],
+        partition: record[2],
+        priority: record[3],
+        mask: record[8],
+        policy: record[9],
     })
 }
