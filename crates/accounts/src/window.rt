@@ -57,24 +57,21 @@ pub fn move_slot(
     ensures { Moved settings used.old c history.old used.new result.clock history.new
         × Reweighed used.old used.new budgets.now (need settings) solvent result.solvent }
 {
-    let window = settings.window;
-    let slot = units::next_slot(c.slot, window);
+    let slot = units::next_slot(c.slot, settings.window);
     let need = units::need(settings.edition, settings.tick);
     let solvent = solvency::clear_slot(
         used,
         budgets,
         history,
-        window,
+        settings.window,
         settings.count,
         slot,
         need,
         solvent,
     );
     let since = Cycles(0);
-    Account {
-        clock: Clock { slot, since, ..c },
-        solvent,
-    }
+    let clock = Clock { slot, since, ..c };
+    Account { clock, solvent }
 }
 
 // A resume takes the stamp as it is and forgets all history; threads and queue stay.

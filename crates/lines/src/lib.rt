@@ -19,6 +19,7 @@ fn digit(n: u8) -> u8
 }
 
 // Refusal in two digits, mode, partition in two digits, thread in three.
+#[tactic(auto, unfolding(model::specs::Answers::text_of, sheet::specs::Records::digits_of))]
 fn text(n: Numbers) -> [u8; 12]
     ensures { result ≡ text_of (numbers_of n) }
 {
