@@ -106,8 +106,14 @@ fn work(
     );
     cache.sets.solvent = paid.solvent;
     let queued = actions::act(state, clock.queued, event);
-    let queue = ReadyQueue::of(state.seen(), queued, settings.core);
-    cache.follow(state.ready, queue, event.action, event.thread, home);
+    let seen = state.seen();
+    cache.follow(
+        seen.ready,
+        ReadyQueue::of(seen, queued, settings.core),
+        event.action,
+        event.thread,
+        home,
+    );
     Clock {
         queued,
         ..paid.clock
