@@ -17,14 +17,14 @@ use model::StateMut;
 
 // A thread's record, which stands in its place of the seven arrays.
 #[derive(Clone, Copy)]
-pub struct Thread {
-    pub exists: bool,
-    pub ready: bool,
-    pub partition: u8,
-    pub priority: u8,
-    pub mask: u8,
-    pub policy: u8,
-    pub slice: u8,
+struct Thread {
+    exists: bool,
+    ready: bool,
+    partition: u8,
+    priority: u8,
+    mask: u8,
+    policy: u8,
+    slice: u8,
 }
 
 // The record of no thread.
