@@ -17,6 +17,7 @@ fn charge_row(row: &mut [u32], slot: Ticks, amount: Cycles)
 // An amount is charged to a partition in a slot.
 // The form that document 01 names for "partition p's row is the W numbers from place p × W": the row's part of the lent history, starting in
 // its middle, is lent on to the function that charges it.
+#[tactic(auto, using(lists::proofs::Parts::part_added))]
 pub fn charge_slot(history: &mut [u32], window: Ticks, partition: u8, slot: Ticks, amount: Cycles)
     requires { (slot.0 < window.0) × (partition * window.0 + window.0 ≤ length history.old)
         × (get_or history.old (partition * window.0 + slot.0) 0 + amount.0 < 2 ^ 32) }

@@ -1,7 +1,6 @@
 use Prim.Native.Nat.{◌<◌}
-use mathlib.Core.Path.{◌≡◌}
-use lib.ListN.{length}
 use native.Mathlib.Omega.{arith}
+use lib.ListN.{length}
 use Rattle.sheet.specs.Settings.{budget}
 use Rattle.sheet.proofs.Within.{share_most}
 use Rattle.accounts.proofs.SolvencyLaws.{amounts_more, paying_more, paying_none}
@@ -21,8 +20,7 @@ loop-p-preserved c =
     let turn = c.loop-p in
     let s = c.args.settings in
     let b = c.budget-budget in
-    let wide : length turn.budgets ≡ 16 = omega arith in
-    let few : turn.p < 16 = omega (arith, c.loop-p-test.true, c.requires.count_high) in (
-      amounts_more s turn.p few turn.budgets b.result.0 wide b.ensures turn.invariant.0,
-      paying_more s turn.p few turn.paying c.mark-paying.result b.result.0 b.ensures c.mark-paying.ensures turn.invariant.1,
+    let within : turn.p < length turn.budgets = omega (arith, c.requires.count_high) in (
+      amounts_more s turn.p turn.budgets b.result.0 within b.ensures turn.invariant.0,
+      paying_more s turn.p turn.paying c.mark-paying.result b.result.0 b.ensures c.mark-paying.ensures turn.invariant.1,
     )

@@ -18,6 +18,5 @@ returns c =
     let d = c.charge-clock in
     let n = c.need-need in
     let on = c.if-c-eq-IDLE.false in
-    let pays = c.requires.pays on in
-    let paid = paid_weighed a.settings a.used.now a.c a.partitions.now a.history.now d.new.used d.result _ a.stamp d.ensures a.budgets.now n.result.0 a.solvent c.weigh_at-solvent.result on pays.running pays.sixteen c.weigh_at-solvent.ensures in
+    let paid = paid_weighed a.settings a.used.now a.c a.partitions.now a.history.now d.new.used d.result _ a.stamp d.ensures a.budgets.now n.result.0 a.solvent c.weigh_at-solvent.result on (c.requires.pays on).running c.weigh_at-solvent.ensures in
     (d.ensures, subst (λ (x : ℕ). Reweighed a.used.now d.new.used a.budgets.now x a.solvent c.weigh_at-solvent.result) n.ensures paid)
