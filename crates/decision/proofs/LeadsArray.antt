@@ -1,9 +1,9 @@
 -- The leads as they are kept, one after the other, are two lists of numbers.
 use mathlib.Core.Path.{◌≡◌, sym}
-use Prim.Native.Nat.{ℕ, ◌<◌}
+use Prim.Native.Nat.{ℕ}
 use mathlib.Core.List.{List}
-use lib.ListN.{length, get_or, set}
-use Rattle.std.proofs.lemmas.List.{map-set, length-map, get_or-map}
+use lib.ListN.{length, get_or, set, get_or-map}
+use Rattle.std.proofs.lemmas.List.{map-set, length-map}
 use Rattle.decision.specs.Leads.{tops_of, firsts_of}
 use Rattle.decision.specs.declared.leads.Lead.{Lead}
 
@@ -19,8 +19,13 @@ tops_set l p x = map-set (λ y. y.top) l p x
 pub firsts_set : (l : List Lead) (p : ℕ) (x : Lead) → firsts_of (set l p x) ≡ set (firsts_of l) p x.first
 firsts_set l p x = map-set (λ y. y.first) l p x
 
-pub top_at : (l : List Lead) (p : ℕ) (d : Lead) → p < length l → get_or (tops_of l) p 0 ≡ (get_or l p d).top
-top_at l p d b = get_or-map (λ x. x.top) l p d 0 b
+pub top_at : (l : List Lead) (p : ℕ) → get_or (tops_of l) p 0 ≡ (get_or l p (record { top = 0; first = 0 })).top
+top_at l p = get_or-map (λ (x : Lead). x.top) l p (record { top = 0; first = 0 })
 
-pub first_at : (l : List Lead) (p : ℕ) (d : Lead) → p < length l → get_or (firsts_of l) p 0 ≡ (get_or l p d).first
-first_at l p d b = get_or-map (λ x. x.first) l p d 0 b
+pub first_at : (l : List Lead) (p : ℕ) → get_or (firsts_of l) p 0 ≡ (get_or l p (record { top = 0; first = 0 })).first
+first_at l p = get_or-map (λ (x : Lead). x.first) l p (record { top = 0; first = 0 })
+
+-- both of one partition
+pub lead_at : (l : List Lead) (p : ℕ)
+    → get_or l p (record { top = 0; first = 0 }) ≡ record { top = get_or (tops_of l) p 0; first = get_or (firsts_of l) p 0 }
+lead_at l p i = record { top = sym (top_at l p) i; first = sym (first_at l p) i }

@@ -1,12 +1,13 @@
 // What each partition would run, kept beside the ready queue: one more than its top priority, 0 where it does not compete, and the first thread
 // that has it, 255 where there is none.
-ghost use Rattle.std.specs.Prelude.{◌≡◌, ◌+◌, ◌≤◌, ◌<◌, get_or};
+ghost use Rattle.std.specs.Prelude.{◌≡◌, ◌+◌, ◌≤◌, ◌<◌, get_or, take};
 ghost use Rattle.model.specs.State.{may_run};
 ghost use Rattle.decision.specs.Leads.{raised_by};
 ghost use Rattle.decision.specs.Keeping.{KeptOf, StaleOf, LeftOf, ChangedOf, LinedOf, JoinsOf};
 ghost use Rattle.decision.specs.Seen.{queue_seen};
 
 use model::StateRef;
+use sets::Members;
 use threads::masks;
 
 // One more than the top priority of some threads, and the first that has it.
@@ -27,9 +28,9 @@ pub struct ReadyQueue<'a> {
     pub core: u32,
 }
 
-impl ReadyQueue<'_> {
+impl<'a> ReadyQueue<'a> {
     // That of a state.
-    pub fn of(state: StateRef<'_>, queued: u32, core: u32) -> ReadyQueue<'_>
+    pub fn of(state: StateRef<'a>, queued: u32, core: u32) -> ReadyQueue<'a>
         ensures { result ≡ queue_seen state.entry queued core }
     {
         ReadyQueue {
@@ -40,6 +41,15 @@ impl ReadyQueue<'_> {
             queued,
             core,
         }
+    }
+
+    // The queued threads, in their order.
+    fn line(self) -> &'a [u8]
+        requires { self.queued ≤ 64 }
+        ensures { result.now ≡ take self.entry.queued self.entry.queue.now }
+    {
+        let queue = self.queue;
+        &queue[..self.queued as usize]
     }
 }
 
@@ -93,8 +103,8 @@ pub fn build(leads: &mut [Lead; 16], queue: ReadyQueue<'_>) -> u16
 {
     *leads = [Lead { top: 0, first: 255 }; 16];
     let mut set = 0;
-    for i in 0..queue.queued {
-        set = join(leads, queue, set, queue.queue[i as usize]);
+    for t in queue.line() {
+        set = join(leads, queue, set, *t);
     }
     set
 }
@@ -107,31 +117,25 @@ pub fn renew(leads: &mut [Lead; 16], queue: ReadyQueue<'_>, competing: u16, stal
     ensures { KeptOf queue.entry leads.new result }
 {
     let mut set = competing;
-    let mut left = stale;
-    while left != 0 {
-        let p = sets::lowest(left);
+    for p in Members(stale) {
         let here = p as usize;
         let ceiling = leads[here].top;
         let mut best = Lead { top: 0, first: 255 };
-        let mut i: u32 = 0;
+        let mut line = queue.line().iter();
         let lead = loop {
-            if queue.queued <= i {
+            let Some(t) = line.next() else {
                 break best;
-            }
-            let entry = queue.queue[i as usize];
-            let at = entry as usize;
-            i += 1;
-            if !may_run(queue.partitions[at], queue.masks[at], p, queue.core) {
-                continue;
-            }
-            best = raise(best, queue.priorities[at], entry);
-            if best.top == ceiling {
-                break best;
+            };
+            let at = *t as usize;
+            if may_run(queue.partitions[at], queue.masks[at], p, queue.core) {
+                best = raise(best, queue.priorities[at], *t);
+                if best.top == ceiling {
+                    break best;
+                }
             }
         };
         leads[here] = lead;
         set = sets::mark(set, p, lead.top != 0);
-        left = sets::rest(left);
     }
     set
 }
@@ -168,13 +172,8 @@ pub fn change(leads: &mut [Lead; 16], queue: ReadyQueue<'_>, competing: u16, t: 
             top: level,
             first: t,
         };
-        return competing;
+    } else if lead.first == t && lead.top != level {
+        return renew(leads, queue, competing, sets::only(p));
     }
-    if lead.first != t {
-        return competing;
-    }
-    if level == lead.top {
-        return competing;
-    }
-    renew(leads, queue, competing, sets::only(p))
+    competing
 }

@@ -1,0 +1,27 @@
+use mathlib.Core.Path.{◌≡◌, sym, ap, ◌∙◌}
+use Prim.Native.Nat.{ℕ, ◌<◌}
+use mathlib.Core.List.{List}
+use lib.ListN.{length, get_or}
+use native.Mathlib.Omega.{arith}
+use Rattle.decision.specs.declared.leads.Lead.{Lead}
+use Rattle.decision.specs.Leads.{tops_of, firsts_of, raised_by}
+use Rattle.decision.specs.Keeping.{Joins}
+use Rattle.decision.proofs.LeadsArray.{tops_set, firsts_set, lead_at}
+use Rattle.decision.proofs.LeadsLaws.{join_none, join_raised}
+use Rattle.decision.proofs.leads.join.Goals as goal
+
+pub returns-then-not-allowed : goal.returns-then-not-allowed
+returns-then-not-allowed c =
+    let q = c.args.queue in
+    join_none q.core q.partitions.now q.priorities.now q.masks.now (tops_of c.args.leads.now) (firsts_of c.args.leads.now) c.args.competing c.args.t
+    (sym c.allowed.ensures ∙ c.if-not-allowed.true)
+
+pub returns : goal.returns
+returns c =
+    let q = c.args.queue in
+    let leads = c.args.leads.now in
+    let p = get_or q.partitions.now c.args.t 0 in
+    rw (tops_set leads p c.raise.result, firsts_set leads p c.raise.result)
+    (join_raised q.core q.partitions.now q.priorities.now q.masks.now (tops_of leads) (firsts_of leads) c.args.competing c.args.t
+    c.requires.2 (sym c.allowed.ensures ∙ c.if-not-allowed.false) c.put.result c.put.ensures c.raise.result
+    (c.raise.ensures ∙ ap (λ (x : Lead). raised_by x (get_or q.priorities.now c.args.t 0) c.args.t) (lead_at leads p)))
