@@ -21,8 +21,9 @@ pub fn run(
     ensures ran { Ran (lent_in settings.now shares.now clock.old state.old) events.now out.old (outcome_of result) (lent_in settings.now shares.now clock.new state.new) out.new }
     ensures loan { SameLoan state.old state.new }
 {
-    let opened = opening::open(settings, shares, clock, state.seen())?;
-    let mut beside = opened.beside(state.seen());
+    let seen = state.seen();
+    let opened = opening::open(settings, shares, clock, seen)?;
+    let mut beside = opened.beside(seen);
     let records = events.len().div_ceil(12).min(out.len() / 12);
     let after = batch::steps(
         opened.settings,

@@ -19,8 +19,9 @@ pub fn event(
     ensures answered { Answered (lent_in settings.now shares.now clock.old state.old) event.now (line_of result) (lent_in settings.now shares.now clock.new state.new) }
     ensures loan { SameLoan state.old state.new }
 {
-    let opened = opening::open(settings, shares, clock, state.seen())?;
-    let mut beside = opened.beside(state.seen());
+    let seen = state.seen();
+    let opened = opening::open(settings, shares, clock, seen)?;
+    let mut beside = opened.beside(seen);
     let stepped = scheduler::step(
         opened.settings,
         state,

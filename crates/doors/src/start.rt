@@ -1,5 +1,5 @@
 // The start door: a fresh state from a share sheet's bytes.
-ghost use Rattle.std.specs.Prelude.{◌≡◌, ◌*◌, ◌≤◌, length};
+ghost use Rattle.std.specs.Prelude.{◌*◌, ◌≤◌, length};
 ghost use Rattle.sheet.specs.Settings.{W};
 ghost use Rattle.refusals.specs.Refusals.{outcome_of};
 ghost use Rattle.model.specs.Arrays.{SameLoan};
@@ -20,7 +20,7 @@ fn begin(
     clock: &mut [u32; 5],
     state: &mut StateMut<'_>,
 )
-    requires { (length s.shares ≡ 16) × (s.count * W s ≤ length state.old.history.now) }
+    requires { s.count * W s ≤ length state.old.history.now }
     ensures fresh { Fresh s state.old.history.now (lent_in settings.new shares.new clock.new state.new) }
     ensures loan { SameLoan state.old state.new }
 {

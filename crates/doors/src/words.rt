@@ -31,7 +31,6 @@ pub fn settings_in(numbers: &[u32; 7], shares: &[u32; 16]) -> Settings
 
 // The settings are stored.
 pub fn keep_settings(numbers: &mut [u32; 7], shares: &mut [u32; 16], s: Settings)
-    requires { length s.shares ≡ 16 }
     ensures { settings_from numbers.new shares.new ≡ s }
 {
     *numbers = [
