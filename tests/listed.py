@@ -13,9 +13,15 @@ DOORS = {("doors", "start::start"), ("doors", "single::event"), ("doors", "batch
 
 
 def public_functions():
-    """The public functions, and those that types give for traits, as an edit names them."""
-    paths = ROOT.glob("crates/*/src/*.rt")
-    return {(p.parts[-3], module(p) + name) for p in paths for name, function in functions(p.read_text()).items() if function.public}
+    """The public functions, as an edit names them, and those that a public type gives for a trait."""
+    found = set()
+    for crate in {path.parts[-3] for path in ROOT.glob("crates/*/src/*.rt")}:
+        texts = {path: path.read_text() for path in (ROOT / "crates" / crate / "src").glob("*.rt")}
+        own = {name for text in texts.values() for name in re.findall(r"^(?:struct|enum|trait) (\w+)", text, re.M)}
+        for path, text in texts.items():
+            public = [f.name for f in functions(text).values() if f.public and not own & set(re.findall(r"\w+", f.block))]
+            found |= {(crate, module(path) + name) for name in public}
+    return found
 
 
 def in_code(text):
