@@ -23,7 +23,7 @@ use Rattle.model.specs.Event
 use Rattle.model.specs.Event.{kind_of, thread_of, stamp_of}
 use Rattle.model.specs.Facts.{Settled}
 use Rattle.model.specs.Slices.{spent, ends}
-use Rattle.model.specs.Step.{Saved, saved, billed, charge, move_slot, to_tail, turned, sliced, ticked, restart, act, apply}
+use Rattle.model.specs.Step.{Saved, saved, charge, move_slot, to_tail, turned, sliced, ticked, restart, act, apply}
 use Rattle.model.specs.Arrays.{Columns, Seen, with_slice_column, Regular, tables_in, with_tables, state_of}
 use Rattle.model.specs.declared.Clock.{Clock}
 use Rattle.model.specs.declared.StateMut.{StateMut}
@@ -31,7 +31,6 @@ use Rattle.model.specs.declared.StateRef.{StateRef}
 use Rattle.model.proofs.Bounds.{running_inside, charge_fits, total_fits, next_inside}
 use Rattle.model.proofs.Table.{thread_at_law, threads_length}
 use Rattle.invariants.proofs.Acts.{act_settled}
-use Rattle.invariants.proofs.Charges.{used_length}
 use Rattle.invariants.proofs.Kept.{charge_settled, length_charge}
 use Rattle.invariants.proofs.Applied.{Left, apply_left}
 use Rattle.invariants.proofs.Turns.{none_above, sliced_queue}
@@ -109,10 +108,6 @@ restart_queued : (v : Saved) (stamp : ℕ) → (restart v stamp).state.queued �
 unfolding restart
 restart_queued v stamp = refl
 
-charge_used_length : (v : Saved) (stamp : ℕ) → length (charge v stamp).state.used ≡ length v.state.used
-unfolding charge
-charge_used_length v stamp = used_length v.state (billed v.state) (elapsed_of stamp v.state.stamp)
-
 module _ {c : Settings} {u : List ℕ} {k : Clock} {ts : Columns} {q h budgets tops firsts : List ℕ} {sets : Sets} {x : Event}
     (g : Ready c u k ts q h budgets tops firsts sets x) where
   abbrev p : List ℕ
@@ -161,7 +156,7 @@ module _ {c : Settings} {u : List ℕ} {k : Clock} {ts : Columns} {q h budgets t
         }
 
     pub payable : Payable c u k p h x.stamp
-    payable = record { sixteen = g.sixteen; since = omega (arith, short, settled.limits.tick_high); pays = pays }
+    payable = record { since = omega (arith, short, settled.limits.tick_high); pays = pays }
 
     charged : Settled (charge v x.stamp).state (charge v x.stamp).history
     charged =
@@ -176,16 +171,14 @@ module _ {c : Settings} {u : List ℕ} {k : Clock} {ts : Columns} {q h budgets t
     -- ---- a tick
 
     movable : (u' : List ℕ) (k' : Clock) (h' : List ℕ) → Charged c u k p h u' k' h' x.stamp
-        → (length u' ≡ 16) × (k'.slot.0 < W c) × Slots.Covered u' h' (W c) c.count (next_of k'.slot.0 (W c))
+        → (k'.slot.0 < W c) × Slots.Covered u' h' (W c) c.count (next_of k'.slot.0 (W c))
     movable u' k' h' d =
         let y : Saved = saved (state_of c u' k' ts q) h' in
         let same : y ≡ charge v x.stamp = d ts q in
         let fine : Settled y.state y.history = subst (λ (z : Saved). Settled z.state z.history) (sym same) charged in
         let room : wanted y.state ≤ length y.history = subst (λ (z : Saved). wanted z.state ≤ length z.history) (sym same) charged_room in
-        let wide : length y.state.used ≡ 16 = ap (λ (z : Saved). length z.state.used) same ∙ charge_used_length v x.stamp ∙ lengths.used in
         let inside : k'.slot.0 < W c = fine.books.inside in
         let inside' : next_of k'.slot.0 (W c) < W c = next_inside y.state inside in (
-          sym (map_length u') ∙ wide,
           inside,
           record {
             few = fine.limits.count_high;

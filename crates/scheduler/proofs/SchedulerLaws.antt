@@ -30,8 +30,9 @@ use Rattle.model.proofs.Table.{threads_length}
 use Rattle.invariants.proofs.Answered.{Good, good_answer}
 use Rattle.invariants.proofs.Decision.{decide_works}
 use Rattle.accounts.proofs.ChargingLaws.{map_length}
-use Rattle.event.specs.Bytes.{bytes_of}
+use Rattle.event.specs.Bytes.{bytes_of, DecodedFrom}
 use Rattle.event.specs.declared.Event.{Event}
+use Rattle.admission.specs.Tests.{RefusesAll, AcceptsAs}
 use Rattle.decision.specs.Decides.{Favoured}
 use Rattle.decision.specs.Upkeep.{HeldBy, works_for, worked_for, DecidesKept}
 use Rattle.decision.proofs.States.{partition_is}
@@ -39,7 +40,7 @@ use Rattle.decision.proofs.UpkeepLaws as Upkeep
 use Rattle.decision.specs.declared.kept.Sets.{Sets}
 use Rattle.scheduler.specs.Effects.{Ready, Applied}
 use Rattle.scheduler.proofs.EffectsLaws.{left}
-use Rattle.scheduler.specs.Stepping.{Whole, StepAnswered, Same}
+use Rattle.scheduler.specs.Stepping.{Whole, StepAnswered}
 
 -- ---- the answers
 
@@ -105,26 +106,29 @@ module _ {c : Settings} {u : List ℕ} {k : Clock} {ts : Columns} {q h budgets t
         favours = favours;
       }
 
-  -- ---- a refusal
+  -- ---- an event of the bytes b, as it was decoded and admitted
 
-  no : (b : List ℕ) (x : Refusal) → refused_event s b ≡ number_of x → StepAnswered c v b (Err x) u k ts q h budgets tops firsts sets set
-  no b x f =
-      let z = refused_by_event s h b g.taken ∙ f in
-      record { line = line_no s h b x z; after = after_no s h b x z; whole = g }
+  module _ {b : List ℕ} {d : Result Event Refusal} (from : DecodedFrom b d) (o : Result Event Refusal) (tested : RefusesAll c k ts.exists ts.ready d o) where
+    number : outcome_of o ≡ refused_event s b
+    number = tested b from u ts q
 
-  pub no_event : (b : List ℕ) (o : Result Event Refusal) (x : Refusal) → o ≡ Err x → outcome_of o ≡ refused_event s b → StepAnswered c v b (Err x) u k ts q h budgets tops firsts sets set
-  no_event b o x f i = no b x (sym i ∙ ap outcome_of f)
+    pub no_event : {x : Refusal} → o ≡ Err x → StepAnswered c v b (Err x) u k ts q h budgets tops firsts sets set
+    no_event {x} is =
+        let z : refused s h b ≡ number_of x = refused_by_event s h b g.taken ∙ sym number ∙ ap outcome_of is in
+        record { line = line_no s h b x z; after = after_no s h b x z; whole = g }
 
-  pub same : Same u k ts q h u k ts q h
-  same = record { totals = refl; clock = refl; threads = refl; queue = refl; history = refl }
+    module _ (same : AcceptsAs d o) (x : Event) (yes : o ≡ Ok x) where
+      taken : refused s h b ≡ 0
+      taken = refused_by_event s h b g.taken ∙ sym number ∙ ap outcome_of yes
 
-  -- ---- an accepted event
+      bytes_are : b ≡ bytes_of x
+      bytes_are = from.bytes x (same x yes)
 
-  pub taken_still : (b b' : List ℕ) → b ≡ b' → refused s h b' ≡ 0 → (answer v b).refusal ≢ 0 → ⊥
-  taken_still b b' i f no = no (ap (λ (l : List ℕ). (answer v l).refusal) i ∙ answer_zero s h b' f)
+      pub taken_event : (refused s h (bytes_of x) ≡ 0) × (x.stamp ≡ stamp_of (bytes_of x))
+      taken_event = (ap (refused s h) (sym bytes_are) ∙ taken, from.stamp x (same x yes) ∙ ap stamp_of bytes_are)
 
-  pub taken_event : (b : List ℕ) (o : Result Event Refusal) (x : Event) → o ≡ Ok x → outcome_of o ≡ refused_event s b → refused s h b ≡ 0
-  taken_event b o x f i = refused_by_event s h b g.taken ∙ sym i ∙ ap outcome_of f
+      pub taken_still : (answer v b).refusal ≢ 0 → ⊥
+      taken_still n = n (answer_zero s h b taken)
 
   module _ (x : Event) (yes : refused s h (bytes_of x) ≡ 0) (stamped : x.stamp ≡ stamp_of (bytes_of x)) where
     pub ready : Ready c u k ts q h budgets tops firsts sets x

@@ -38,7 +38,7 @@ pub record Applied (c : Settings) (v : Saved) (u : List ℕ) (k : Clock) (ts : C
 pub record Ticking (c : Settings) (u : List ℕ) (k : Clock) (p h : List ℕ) (stamp : ℕ) : Type 0 where
   pub payable : Payable c u k p h stamp
   pub movable : (u' : List ℕ) (k' : Clock) (h' : List ℕ) → Charged c u k p h u' k' h' stamp
-      → (length u' ≡ 16) × (k'.slot.0 < W c) × Slots.Covered u' h' (W c) c.count (next_of k'.slot.0 (W c))
+      → (k'.slot.0 < W c) × Slots.Covered u' h' (W c) c.count (next_of k'.slot.0 (W c))
 
 abbrev pub Ticked : Settings → List ℕ → Clock → List ℕ → List ℕ → List ℕ → Clock → List ℕ → ℕ → Type 0
 Ticked c u k p h u' k' h' stamp =
