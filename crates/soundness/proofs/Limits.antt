@@ -1,8 +1,10 @@
--- The number by which a state is refused.
-use Rattle.std.proofs.Common.{◌≡◌, ℕ, ◌*◌, ◌<◌, ◌≤◌, Bool, true, false, ⊤, List, length, Result, Ok, Err, sym, refl, ap, ◌∙◌, arith, le-ltb, lt-ltb}
-use Rattle.refusals.specs.Refusals.{outcome_of}
+-- The test of the settings, and the number by which a state is refused.
+use Rattle.std.proofs.Common.{◌≡◌, ℕ, ◌*◌, ◌<◌, ◌≤◌, Bool, true, false, List, length, sym, refl, ◌∙◌, le-ltb, lt-ltb, eq-eqb}
+use Rattle.std.specs.Prelude.{Result, Ok, Err, ⊤, is_err}
+use Rattle.lists.proofs.Tests.{clash}
+use Rattle.refusals.specs.Refusals.{number_of, outcome_of}
 use Rattle.refusals.specs.declared.Refusal.{Refusal}
-use Rattle.refusals.proofs.Laws.{same_number}
+use Rattle.refusals.proofs.Laws.{never_zero}
 use Rattle.sheet.specs.Settings.{W, within_limits, refused_settings}
 use Rattle.sheet.specs.declared.Settings.{Settings}
 use Rattle.sheet.proofs.Within.{not_refused, within_limits_law}
@@ -10,6 +12,19 @@ use Rattle.model.specs.Arrays.{Columns}
 use Rattle.model.specs.declared.Clock.{Clock}
 use Rattle.model.specs.Lent.{refused_arrays}
 use Rattle.soundness.specs.Refused.{sound_in}
+
+module _ (c : Settings) where
+  pub limits_hold : (o : Result ⊤ Refusal) → is_err o ≡ false → outcome_of o ≡ refused_settings c → within_limits c ≡ true
+  limits_hold (Ok _) e f = not_refused c (sym f)
+  limits_hold (Err r) e f = clash refl e
+
+  pub limits_fail : (o : Result ⊤ Refusal) → is_err o ≡ true → outcome_of o ≡ refused_settings c → within_limits c ≡ false
+  limits_fail (Ok _) e f = clash e refl
+  limits_fail (Err r) e f = go (within_limits c) refl
+    where
+      go : (z : Bool) → within_limits c ≡ z → z ≡ false
+      go true w = clash (eq-eqb (number_of r) 0 (f ∙ within_limits_law c w)) (never_zero r)
+      go false w = refl
 
 -- ---- what is refused
 
@@ -23,10 +38,11 @@ module _ (c : Settings) (u : List ℕ) (k : Clock) (ts : Columns) (q h : List �
     unfolding refused_arrays
     refused_short x = rw (within, lt-ltb (length h) (c.count * W c) x)
 
-    pub refused_sound : (b : Bool) → c.count * W c ≤ length h → b ≡ sound_in c u k ts q h → b ≡ true → 0 ≡ refused_arrays c u k ts q h
-    unfolding refused_arrays
-    refused_sound b x y z = rw (within, le-ltb (length h) (c.count * W c) x, sym y ∙ z)
+    module _ (long : c.count * W c ≤ length h) (b : Bool) (is : b ≡ sound_in c u k ts q h) where
+      pub refused_sound : b ≡ true → 0 ≡ refused_arrays c u k ts q h
+      unfolding refused_arrays
+      refused_sound z = rw (within, le-ltb (length h) (c.count * W c) long, sym is ∙ z)
 
-    pub refused_unsound : (b : Bool) → c.count * W c ≤ length h → b ≡ sound_in c u k ts q h → b ≡ false → 8 ≡ refused_arrays c u k ts q h
-    unfolding refused_arrays
-    refused_unsound b x y z = rw (within, le-ltb (length h) (c.count * W c) x, sym y ∙ z)
+      pub refused_unsound : b ≡ false → 8 ≡ refused_arrays c u k ts q h
+      unfolding refused_arrays
+      refused_unsound z = rw (within, le-ltb (length h) (c.count * W c) long, sym is ∙ z)

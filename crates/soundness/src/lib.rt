@@ -12,9 +12,10 @@ ghost use Rattle.model.specs.Arrays.{columns_seen};
 ghost use Rattle.model.specs.Lent.{refused_arrays};
 ghost use Rattle.soundness.specs.Refused.{rest_zero, running_fits, sound_in};
 
-use model::{Clock, StateRef};
+use model::{Clock, IDLE, StateRef};
 use refusals::Refusal;
 use sheet::Settings;
+use sums::History;
 use threads::masks;
 
 // A number that must be zero past the last partition: 0 for a partition below the count.
@@ -28,15 +29,10 @@ fn past(p: u32, count: u32, number: u32) -> u32
 fn rest_zero(settings: Settings, used: &[u32; 16]) -> bool
     ensures { result ≡ rest_zero settings used.now }
 {
-    let count = settings.count;
     let mut bits: u32 = 0;
-    let mut p: u32 = 0;
-    while p < 16 {
+    for p in 0..16u32 {
         let at = p as usize;
-        let share = settings.shares[at].0;
-        let held = used[at];
-        bits = bits | past(p, count, share | held);
-        p += 1;
+        bits |= past(p, settings.count, settings.shares[at].0 | used[at]);
     }
     bits == 0
 }
@@ -46,15 +42,14 @@ fn running_fits(ready: &[u8; 64], masks: &[u8; 64], running: u32, core: u32) -> 
     requires { core ≤ 7 }
     ensures { result ≡ running_fits ready.now masks.now running core }
 {
-    if running == 255 {
+    if running == IDLE {
         return true;
     }
     if 64 <= running {
         return false;
     }
     let at = running as usize;
-    let mask = masks[at];
-    (ready[at] == 1) & masks::allowed(mask, core)
+    (ready[at] == 1) & masks::allowed(masks[at], core)
 }
 
 // Every flag is 0 or 1 and the state is sound, if its settings are within the limits and the history has room for its rows. The shortest
@@ -69,19 +64,16 @@ fn sound(settings: Settings, clock: Clock, state: StateRef<'_>) -> bool
     if !queue::sound_queue(state.ready, state.queue, clock.queued) {
         return false;
     }
+    let history = History {
+        numbers: state.history,
+        window: settings.window.0,
+        count: settings.count,
+    };
     let most = units::twice(settings.tick);
     (clock.since.0 <= most.0)
         & rest_zero(settings, state.used)
         & running_fits(state.ready, state.masks, clock.running, settings.core)
-        & sums::books_agree(
-            state.history,
-            state.used,
-            settings.window,
-            settings.count,
-            clock.slot,
-            most,
-            clock.since,
-        )
+        & history.books_agree(state.used, clock.slot, most, clock.since)
 }
 
 // What every door that is lent a state refuses before all else: 8 for settings outside their limits, because the length wanted is worked
@@ -96,8 +88,9 @@ pub fn refused_state(settings: Settings, clock: Clock, state: StateRef<'_>) -> R
     if state.history.len() < wanted {
         return Err(Refusal::Buffer);
     }
-    if !sound(settings, clock, state) {
-        return Err(Refusal::Unsound);
+    if sound(settings, clock, state) {
+        Ok(())
+    } else {
+        Err(Refusal::Unsound)
     }
-    Ok(())
 }

@@ -1,37 +1,22 @@
 // The threads' records, which seven lent arrays hold: whether each is sound.
-ghost use Rattle.std.specs.Prelude.{◌≡◌, ◌≤◌, min, max};
+ghost use Rattle.std.specs.Prelude.{◌≡◌, ◌≤◌};
 ghost use Rattle.model.specs.Arrays.{columns_seen};
 ghost use Rattle.soundness.specs.Records.{sound_records, OfAbsent, OfExisting, WrongFlag, WrongSlice, WrongTurn};
 
 use model::StateRef;
-use std::num::wrapping_sub_u8;
-
-// The smaller of two bytes.
-fn smaller(a: u8, b: u8) -> u8
-    ensures { result ≡ min a b }
-{
-    if a < b { a } else { b }
-}
-
-// The larger of two bytes.
-fn larger(a: u8, b: u8) -> u8
-    ensures { result ≡ max a b }
-{
-    if a < b { b } else { a }
-}
 
 // A byte of a thread that does not exist, and 0 of one that does. The flag less 1 is 255 or 0.
 fn of_absent(exists: u8, byte: u8) -> u8
     ensures { OfAbsent exists byte result }
 {
-    byte & wrapping_sub_u8(exists, 1)
+    byte & exists.wrapping_sub(1)
 }
 
 // A byte of a thread that exists, and 255 of one that does not.
 fn of_existing(exists: u8, byte: u8) -> u8
     ensures { OfExisting exists byte result }
 {
-    byte | wrapping_sub_u8(exists, 1)
+    byte | exists.wrapping_sub(1)
 }
 
 // A byte that is 0 where this one is 0 or 1.
@@ -46,7 +31,7 @@ fn wrong_flag(byte: u8) -> u8
 fn wrong_slice(policy: u8, slice: u8) -> u8
     ensures { WrongSlice policy slice result }
 {
-    wrapping_sub_u8(slice, policy) & (wrapping_sub_u8(policy, 1) | 252)
+    slice.wrapping_sub(policy) & (policy.wrapping_sub(1) | 252)
 }
 
 // A byte that is 0 where a thread that exists may have this policy and this slice, and where both are 0 for one that does not. The slice of the
@@ -68,8 +53,7 @@ pub fn sound_threads(state: StateRef<'_>, count: u8) -> bool
     let mut rest: u8 = 0;
     let mut least: u8 = 255;
     let mut most: u8 = 0;
-    let mut t: u32 = 0;
-    while t < 64 {
+    for t in 0..64u32 {
         let at = t as usize;
         let e = state.exists[at];
         let r = state.ready[at];
@@ -79,10 +63,9 @@ pub fn sound_threads(state: StateRef<'_>, count: u8) -> bool
         let o = state.policies[at];
         let l = state.slices[at];
         let wrong = of_absent(e, r | p | n | m) | wrong_turn(e, o, l);
-        rest = rest | (wrong_flag(e | r | o) | wrong);
-        least = smaller(least, of_existing(e, m));
-        most = larger(most, p);
-        t += 1;
+        rest |= wrong_flag(e | r | o) | wrong;
+        least = least.min(of_existing(e, m));
+        most = most.max(p);
     }
     (rest == 0) & (0 < least) & (most < count)
 }

@@ -1,27 +1,37 @@
-use Rattle.std.proofs.Common.{rules, ◌≡◌, ◌*◌, ◌≤◌, true, length, if◌then◌else◌, nat_lt, ℕ, ◌+◌, ◌-◌, ◌<◌, ◌/◌, ◌%◌, Bool, false, nat_eq, List, [], ◌∷◌, ◌++◌, slice_index_or, slice_set, bit_and, bit_or, Fits, w8, w32, w64, Bor, MutBor}
-use Rattle.refusals.specs.Refusals.{outcome_of}
-use Rattle.sheet.specs.Settings.{W, within_limits}
+-- `refused_state` is the number by which a state is refused.
+use Rattle.std.proofs.Common.{sym, ◌∙◌}
 use Rattle.model.specs.Arrays.{columns_seen}
-use Rattle.model.specs.Lent.{refused_arrays}
-use Rattle.soundness.specs.Refused.{rest_zero, running_fits, sound_in}
+use Rattle.soundness.proofs.Limits.{limits_hold, limits_fail, refused_settings_law, refused_short, refused_sound, refused_unsound}
 use Rattle.soundness.proofs.refused_state.Goals as goal
 
--- src/lib.rt:85:9
 pub returns-then-is_err : goal.returns-then-is_err
-returns-then-is_err c = ?
+returns-then-is_err c =
+    let a = c.args in
+    let x = a.state in
+    refused_settings_law a.settings x.used.now a.clock (columns_seen x) x.queue.now x.history.now
+    (limits_fail a.settings c.limits.result (sym c.is_err.ensures.value ∙ c.if-is_err.true) c.limits.ensures)
 
--- src/lib.rt:89:9
 pub returns-then-state-wanted : goal.returns-then-state-wanted
-returns-then-state-wanted c = ?
+returns-then-state-wanted c =
+    let a = c.args in
+    let x = a.state in
+    refused_short a.settings x.used.now a.clock (columns_seen x) x.queue.now x.history.now
+    (limits_hold a.settings c.limits.result (sym c.is_err.ensures.value ∙ c.if-is_err.false) c.limits.ensures) c.if-state-wanted.true
 
--- src/lib.rt:91:9
 pub sound-requires : goal.sound-requires
-sound-requires c = ?
+sound-requires c =
+    (limits_hold c.args.settings c.limits.result (sym c.is_err.ensures.value ∙ c.if-is_err.false) c.limits.ensures, c.if-state-wanted.false)
 
--- src/lib.rt:92:9
-pub returns-then-not-sound : goal.returns-then-not-sound
-returns-then-not-sound c = ?
+pub returns-then-sound : goal.returns-then-sound
+returns-then-sound c =
+    let a = c.args in
+    let x = a.state in
+    refused_sound a.settings x.used.now a.clock (columns_seen x) x.queue.now x.history.now
+    (limits_hold a.settings c.limits.result (sym c.is_err.ensures.value ∙ c.if-is_err.false) c.limits.ensures) c.if-state-wanted.false c.sound.result c.sound.ensures c.if-sound.true
 
--- src/lib.rt:81:1
-pub returns : goal.returns
-returns c = ?
+pub returns-else-sound : goal.returns-else-sound
+returns-else-sound c =
+    let a = c.args in
+    let x = a.state in
+    refused_unsound a.settings x.used.now a.clock (columns_seen x) x.queue.now x.history.now
+    (limits_hold a.settings c.limits.result (sym c.is_err.ensures.value ∙ c.if-is_err.false) c.limits.ensures) c.if-state-wanted.false c.sound.result c.sound.ensures c.if-sound.false

@@ -1,39 +1,49 @@
-use Rattle.std.proofs.Common.{rules, ◌≡◌, ◌*◌, ◌≤◌, true, length, if◌then◌else◌, nat_lt, ℕ, ◌+◌, ◌-◌, ◌<◌, ◌/◌, ◌%◌, Bool, false, nat_eq, List, [], ◌∷◌, ◌++◌, slice_index_or, slice_set, bit_and, bit_or, Fits, w8, w32, w64, Bor, MutBor}
-use Rattle.refusals.specs.Refusals.{outcome_of}
-use Rattle.sheet.specs.Settings.{W, within_limits}
+-- `sound` is the model's soundness with flags of 0 and 1, for settings within their limits and a history long enough.
+use Rattle.std.proofs.Common.{arith}
+use Rattle.sheet.proofs.Within.{limits_of}
 use Rattle.model.specs.Arrays.{columns_seen}
-use Rattle.model.specs.Lent.{refused_arrays}
-use Rattle.soundness.specs.Refused.{rest_zero, running_fits, sound_in}
+use Rattle.soundness.proofs.Whole.{bad_records, bad_queue, last_parts}
 use Rattle.soundness.proofs.sound.Goals as goal
 
--- src/lib.rt:66:39
 pub overflow_cast-settings : goal.overflow_cast-settings
-overflow_cast-settings c = ?
+overflow_cast-settings c = omega (arith, (limits_of c.args.settings c.requires.0).count_high)
 
--- src/lib.rt:66:9
 pub sound_threads-requires : goal.sound_threads-requires
-sound_threads-requires c = ?
+sound_threads-requires c = (limits_of c.args.settings c.requires.0).count_low
 
--- src/lib.rt:67:9
 pub returns-then-not-sound_threads : goal.returns-then-not-sound_threads
-returns-then-not-sound_threads c = ?
+returns-then-not-sound_threads c =
+    let a = c.args in
+    let x = a.state in
+    bad_records a.settings x.used.now a.clock (columns_seen x) x.queue.now x.history.now c.requires.0 c.sound_threads.result c.sound_threads.ensures c.if-not-sound_threads.true
 
--- src/lib.rt:70:9
 pub returns-then-not-sound_queue : goal.returns-then-not-sound_queue
-returns-then-not-sound_queue c = ?
+returns-then-not-sound_queue c =
+    let a = c.args in
+    let x = a.state in
+    bad_queue a.settings x.used.now a.clock (columns_seen x) x.queue.now x.history.now c.requires.0 c.sound_queue.result c.sound_queue.ensures c.if-not-sound_queue.true
 
--- src/lib.rt:72:9
 pub twice-most-requires : goal.twice-most-requires
-twice-most-requires c = ?
+twice-most-requires c = omega (arith, (limits_of c.args.settings c.requires.0).tick_high)
 
--- src/lib.rt:75:11
 pub running_fits-requires : goal.running_fits-requires
-running_fits-requires c = ?
+running_fits-requires c = (limits_of c.args.settings c.requires.0).core
 
--- src/lib.rt:76:11
+pub invariant_of-history : goal.invariant_of-history
+invariant_of-history c =
+    let limits = limits_of c.args.settings c.requires.0 in
+    record { few = limits.count_high; short = limits.window_high; inside = c.requires.1 }
+
 pub books_agree-requires : goal.books_agree-requires
-books_agree-requires c = ?
+books_agree-requires c = omega (arith, (limits_of c.args.settings c.requires.0).tick_high)
 
--- src/lib.rt:62:1
 pub returns : goal.returns
-returns c = ?
+returns c =
+    let a = c.args in
+    let x = a.state in
+    let most = c.twice-most.ensures in
+    rw most (last_parts a.settings x.used.now a.clock (columns_seen x) x.queue.now x.history.now
+    c.requires.0 c.sound_threads.result c.sound_queue.result _ _ _
+    c.sound_threads.ensures c.if-not-sound_threads.false
+    c.sound_queue.ensures c.if-not-sound_queue.false
+    c.rest_zero.ensures c.running_fits.ensures (rw most at c.books_agree.ensures))

@@ -6,4 +6,4 @@ use Rattle.soundness.proofs.records.of_existing.Goals as goal
 pub returns : goal.returns
 returns c =
     let a = c.args in
-    of_existing a.exists a.byte c.wrapping_sub_u8.result (omega arith) (omega arith) c.wrapping_sub_u8.ensures.value
+    of_existing a.exists a.byte _ (omega arith) (omega arith) (omega arith)

@@ -6,5 +6,4 @@ use Rattle.soundness.proofs.records.wrong_slice.Goals as goal
 pub returns : goal.returns
 returns c =
     let a = c.args in
-    wrong_slice a.policy a.slice c.wrapping_sub_u8.result c.wrapping_sub_u8-2.result (omega arith) (omega arith) (omega arith)
-    c.wrapping_sub_u8.ensures.value c.wrapping_sub_u8-2.ensures.value
+    wrong_slice a.policy a.slice _ _ (omega arith) (omega arith) (omega arith) (omega arith) (omega arith)
