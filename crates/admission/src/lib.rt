@@ -1,12 +1,12 @@
 // Which events are refused on a sound state, and why: the first refusal that applies.
 #![tactic(auto)]
 
-ghost use Rattle.std.specs.Prelude.{◌≡◌, true, not, ◌||◌, leb, eqb, get_or};
+ghost use Rattle.std.specs.Prelude.{◌≡◌, true};
 ghost use Rattle.refusals.specs.Refusals.{outcome_of};
 ghost use Rattle.model.specs.Event.{well_formed, stamp_of};
 ghost use Rattle.event.specs.Kinds.{kind_number};
 ghost use Rattle.event.specs.Bytes.{bytes_of};
-ghost use Rattle.admission.specs.Tests.{late, create_refused, readiness_refused, other_refused, Refuses, Formed, RefusesAll, AcceptsAs};
+ghost use Rattle.admission.specs.Tests.{late, missing_in, create_refused, readiness_refused, other_refused, Refuses, Formed, RefusesAll, AcceptsAs};
 
 use event::Event;
 use event::kinds::Action;
@@ -17,52 +17,40 @@ use threads::tasks::ROUND_ROBIN;
 use units::Cycles;
 
 // 10: the time since tick would go above 2 × C. A clock that goes back gives a large elapsed.
-fn too_long(action: Action, new: u32, stamp: u32, since: Cycles, tick: Cycles) -> bool
-    ensures { result ≡ late (kind_number action) new stamp since.0 tick.0 }
+#[tactic(auto, using(crate::proofs::Laws::other_kind), unfolding(crate::specs::Tests::late))]
+fn too_long(event: Event, c: Clock, tick: Cycles) -> bool
+    ensures { result ≡ late (kind_number event.action) event.stamp c.stamp c.since.0 tick.0 }
 {
-    let elapsed = units::elapsed(new, stamp);
-    match action {
+    match event.action {
         Action::Resume => false,
-        _ => units::above_two_ticks(since, elapsed, tick),
+        _ => units::above_two_ticks(c.since, units::elapsed(event.stamp, c.stamp), tick),
     }
 }
 
 // No thread of this number exists.
 fn missing(exists: &[u8; 64], t: u8) -> bool
-    ensures { result ≡ (leb 64 t || not (eqb (get_or exists.now t 0) 1)) }
+    ensures { result ≡ missing_in exists.now t }
 {
-    if 64 <= t {
-        return true;
-    }
-    let at = t as usize;
-    exists[at] != 1
+    64 <= t || exists[t as usize] != 1
 }
 
 // A create: 11 for a thread that exists, 12 for a partition not below the count, a run mask of 0, or a policy above 1.
-fn refused_create(
-    exists: &[u8; 64],
-    count: u32,
-    t: u8,
-    partition: u8,
-    mask: u8,
-    policy: u8,
-) -> Result<(), Refusal>
-    ensures { outcome_of result ≡ create_refused exists.now count t partition mask policy }
+#[tactic(auto, unfolding(crate::specs::Tests::create_refused))]
+fn refused_create(exists: &[u8; 64], count: u32, event: Event) -> Result<(), Refusal>
+    ensures { outcome_of result ≡ create_refused exists.now count event.thread event.partition event.mask event.policy }
 {
-    if 64 <= t {
+    if 64 <= event.thread || exists[event.thread as usize] == 1 {
         return Err(Refusal::Thread);
     }
-    if exists[t as usize] == 1 {
-        return Err(Refusal::Thread);
-    }
-    if (count <= partition as u32) | (mask == 0) | (ROUND_ROBIN < policy) {
+    if (count <= event.partition as u32) | (event.mask == 0) | (ROUND_ROBIN < event.policy) {
         return Err(Refusal::Partition);
     }
     Ok(())
 }
 
-// 11 for a thread that does not exist.
-fn named(exists: &[u8; 64], t: u8) -> Result<(), Refusal>
+// A set priority or an end: 11 for one that does not exist.
+#[tactic(auto, unfolding(crate::specs::Tests::other_refused))]
+fn refused_other(exists: &[u8; 64], t: u8) -> Result<(), Refusal>
     ensures { outcome_of result ≡ other_refused exists.now t }
 {
     if missing(exists, t) {
@@ -71,8 +59,8 @@ fn named(exists: &[u8; 64], t: u8) -> Result<(), Refusal>
     Ok(())
 }
 
-// A ready, of which the flag is asked to be 0, or a block, of which it is asked to be 1: 11 for a thread that does not exist, 13 for one whose
-// flag is another one.
+// A ready, of a thread that is not to be ready, or a block, of one that is to be: 11 for one that does not exist, 13 for one that is otherwise.
+#[tactic(auto, using(crate::proofs::Laws::inside, crate::proofs::Laws::otherwise, crate::proofs::Laws::as_wanted))]
 fn refused_readiness(
     exists: &[u8; 64],
     ready: &[u8; 64],
@@ -81,7 +69,7 @@ fn refused_readiness(
 ) -> Result<(), Refusal>
     ensures { outcome_of result ≡ readiness_refused exists.now ready.now t wanted }
 {
-    named(exists, t)?;
+    refused_other(exists, t)?;
     if (ready[t as usize] == 1) != wanted {
         return Err(Refusal::Readiness);
     }
@@ -89,6 +77,7 @@ fn refused_readiness(
 }
 
 // The first refusal that applies to an event of a known form.
+#[tactic(auto, using(crate::proofs::Laws::is_late, crate::proofs::Laws::at_create, crate::proofs::Laws::at_ready, crate::proofs::Laws::at_block, crate::proofs::Laws::at_other, crate::proofs::Laws::at_none))]
 fn refused_action(
     settings: Settings,
     exists: &[u8; 64],
@@ -99,22 +88,15 @@ fn refused_action(
     requires { (well_formed (bytes_of event) ≡ true) × (event.stamp ≡ stamp_of (bytes_of event)) }
     ensures { Refuses settings c exists.now ready.now (bytes_of event) (outcome_of result) }
 {
-    let t = event.thread;
-    if too_long(event.action, event.stamp, c.stamp, c.since, settings.tick) {
+    if too_long(event, c, settings.tick) {
         return Err(Refusal::Elapsed);
     }
+    let t = event.thread;
     match event.action {
-        Action::Create => refused_create(
-            exists,
-            settings.count,
-            t,
-            event.partition,
-            event.mask,
-            event.policy,
-        ),
+        Action::Create => refused_create(exists, settings.count, event),
         Action::Ready => refused_readiness(exists, ready, t, false),
         Action::Block => refused_readiness(exists, ready, t, true),
-        Action::SetPriority | Action::End => named(exists, t),
+        Action::SetPriority | Action::End => refused_other(exists, t),
         Action::Unknown | Action::Tick | Action::Resume => Ok(()),
     }
 }
