@@ -1,7 +1,9 @@
 -- What is lent, and the settings and the clock that were read from it: the doors' answers over what is lent.
 use mathlib.Core.Logic.{◌≢◌}
 use mathlib.Core.Path.{◌≡◌, refl, sym, ap, subst, ◌∙◌}
-use Prim.Native.Nat.{ℕ, ◌*◌, ◌/◌, min}
+use Prim.Native.Nat.{ℕ, ◌+◌, ◌*◌, ◌/◌, min}
+use native.Mathlib.Omega.{arith}
+use Rattle.core.specs.Int.{div_ceil}
 use mathlib.Core.Bool.{false}
 use mathlib.Core.List.{List, ◌++◌}
 use lib.Dec.{eqb}
@@ -28,6 +30,10 @@ use Rattle.scheduler.proofs.SchedulerLaws.{taken_arrays}
 use Rattle.doors.specs.Doors.{Sizes, Answered, Ran}
 use Rattle.doors.specs.Inner.{Room, OpenedFrom, opened_from}
 use Rattle.doors.specs.declared.opening.Opened.{Opened}
+
+-- how many records n bytes are, the last of which may be cut
+pub records : (n : ℕ) → div_ceil n 12 ≡ (n + 11) / 12
+records n = omega arith
 
 -- no refusal has the number 0
 pub not_zero : (r : Refusal) → number_of r ≢ 0
@@ -192,3 +198,6 @@ module _ (x : Lent) where
 -- the same answer, told otherwise
 pub answered_as : {x : Lent} {b : List ℕ} {m n : Line} {y : Lent} → m ≡ n → Answered x b n y → Answered x b m y
 answered_as {x} {b} {m} {n} {y} e d = subst (λ (i : Line). Answered x b i y) (sym e) d
+
+pub ran_as : {x : Lent} {events lines : List ℕ} {m n : ℕ} {y : Lent} {lines' : List ℕ} → m ≡ n → Ran x events lines n y lines' → Ran x events lines m y lines'
+ran_as {x} {events} {lines} {m} {n} {y} {lines'} e d = subst (λ (i : ℕ). Ran x events lines i y lines') (sym e) d

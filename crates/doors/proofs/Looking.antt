@@ -1,5 +1,5 @@
 -- The doors that only look: what each answers, by what it refuses.
-use mathlib.Core.Path.{◌≡◌, sym, ap, ◌∙◌}
+use mathlib.Core.Path.{◌≡◌, sym, ap, subst, ◌∙◌}
 use Prim.Native.Nat.{ℕ, ◌≤◌, ◌<◌, ◌^◌}
 use lib.IntN.{ℤ, pos}
 use lib.ListN.{get_or}
@@ -15,6 +15,7 @@ use Rattle.sheet.specs.Settings.{W, C, share, budget, Limits}
 use Rattle.sheet.specs.declared.Settings.{Settings}
 use Rattle.sheet.proofs.Within.{budget_fits}
 use Rattle.model.specs.State.{used}
+use Rattle.model.specs.Arrays.{state_of}
 use Rattle.model.specs.Answers.{Remainder, decision_line, refusal_line}
 use Rattle.model.specs.Doors.{decision, refused_remaining, remainder}
 use Rattle.model.specs.Facts.{Fit}
@@ -25,6 +26,8 @@ use Rattle.model.proofs.Accepted.{fit_of}
 use Rattle.model.proofs.Bounds.{total_fits}
 use Rattle.model.proofs.Flags.{accepted}
 use Rattle.accounts.proofs.ChargingLaws.{used_at_law}
+use Rattle.doors.specs.Inner.{opened_from}
+use Rattle.doors.specs.declared.opening.Opened.{Opened}
 
 -- what was lent and is not refused fits together
 fit_in : (x : Lent) → refused_in x ≡ 0 → Fit (state_in x) x.history
@@ -38,9 +41,13 @@ module _ (x : Lent) where
   unfolding decision
   decision_no r z = rw (z, never_zero r)
 
-  pub decision_yes : refused_in x ≡ 0 → (d : Decided) → d ≡ decide (state_in x) (favoured (state_in x)) → decision_line d ≡ decision x
+  pub decision_yes : refused_in x ≡ 0 → (i : Opened) → i ≡ opened_from x → (d : Decided)
+      → d ≡ decide (state_of i.settings x.used i.clock x.threads x.queue) (favoured (state_of i.settings x.used i.clock x.threads x.queue)) → decision_line d ≡ decision x
   unfolding decision
-  decision_yes z d e = rw (z, ← e)
+  decision_yes z i f d e =
+      let same : d ≡ decide (state_in x) (favoured (state_in x)) =
+      subst (λ (j : Opened). d ≡ decide (state_of j.settings x.used j.clock x.threads x.queue) (favoured (state_of j.settings x.used j.clock x.threads x.queue))) f e in
+      rw (z, ← same)
 
   -- ---- remaining
 

@@ -134,3 +134,7 @@ module _ (x : Lent) (sheet : List ℕ) where
           taken = λ _. as_state (lent_settings y) y.used (lent_clock y) y.threads y.queue y.history d.flags ∙ fine;
           still = λ n. absurd (n refl);
         }
+
+-- the same answer, told otherwise
+pub begun_as : {x : Lent} {sheet : List ℕ} {m n : ℕ} {y : Lent} → m ≡ n → Begun x sheet n y → Begun x sheet m y
+begun_as {x} {sheet} {m} {n} {y} e d = subst (λ (i : ℕ). Begun x sheet i y) (sym e) d

@@ -7,9 +7,9 @@ ghost use Rattle.doors.specs.Doors.{lent_seen};
 ghost use Rattle.doors.specs.Inner.{OpenedFrom, Begins, Room};
 
 use crate::words;
+use decision::kept;
 use decision::kept::Cache;
 use decision::leads::ReadyQueue;
-use decision::kept;
 use model::{Clock, StateRef};
 use refusals::Refusal;
 use sheet::Settings;
@@ -43,8 +43,7 @@ fn sized(
     ensures used { length used.now ≡ 16 }
     ensures threads { Sized (columns exists.now ready.now partitions.now priorities.now masks.now policies.now slices.now) }
     ensures queue { length queue.now ≡ 64 }
-{
-}
+{}
 
 // Refused are, in this order: settings outside their limits (8), a history too short (7), a state not sound (8).
 pub fn open(

@@ -27,15 +27,15 @@ fn begin(
     history::clear_rows(state.history, s.window, s.count);
     words::keep_settings(settings, shares, s);
     *clock = [0, 0, 0, 0, IDLE];
-    state.used.fill(0);
-    state.exists.fill(0);
-    state.ready.fill(0);
-    state.partitions.fill(0);
-    state.priorities.fill(0);
-    state.masks.fill(0);
-    state.policies.fill(0);
-    state.slices.fill(0);
-    state.queue.fill(0);
+    *state.used = [0; 16];
+    *state.exists = [0; 64];
+    *state.ready = [0; 64];
+    *state.partitions = [0; 64];
+    *state.priorities = [0; 64];
+    *state.masks = [0; 64];
+    *state.policies = [0; 64];
+    *state.slices = [0; 64];
+    *state.queue = [0; 64];
 }
 
 // A fresh start from a sheet's bytes. Refused are 1 to 6 as for the sheet, then a history too short (7).

@@ -41,7 +41,22 @@ step-stepped-requires c =
     c.in_ok-opened.opened c.in_ok-opened.was c.beside-beside.result c.beside-beside.ensures
 
 pub returns-in_err-decision-clause-answered : goal.returns-in_err-decision-clause-answered
-returns-in_err-decision-clause-answered c = ?
+returns-in_err-decision-clause-answered c =
+    let t = (goal.at.returns-in_err-decision-clause-answered c).After-open in
+    let (r, e, q) = err_from_is_err_and c.from_residual-in_err-decision.result c.from_residual-in_err-decision.ensures.1 in
+    let s = c.step-stepped in
+    let y = s.new.state in
+    let v = s.new.cache in
+    answered_as (ap line_of (e ∙ ap Err q))
+    (answered_refused (given t) t.open.result c.in_ok-opened.opened (opened t) c.in_ok-opened.was y.used.now s.result.clock (columns_in y) y.queue.now y.history.now
+    c.args.event.now s.result.verdict v.budgets (tops_of v.leads) (firsts_of v.leads) v.sets s.result.favoured s.ensures.answered s.ensures.still c.in_err-decision.field-0.0 c.in_err-decision.was)
 
 pub returns-clause-answered : goal.returns-clause-answered
-returns-clause-answered c = ?
+returns-clause-answered c =
+    let t = (goal.at.returns-clause-answered c).After-open in
+    let s = c.step-stepped in
+    let y = s.new.state in
+    let v = s.new.cache in
+    rw c.into.ensures
+    (answered_yes (given t) t.open.result c.in_ok-opened.opened (opened t) c.in_ok-opened.was y.used.now s.result.clock (columns_in y) y.queue.now y.history.now
+    c.args.event.now s.result.verdict v.budgets (tops_of v.leads) (firsts_of v.leads) v.sets s.result.favoured s.ensures.answered s.ensures.still c.in_ok-decision.decision c.in_ok-decision.was)
