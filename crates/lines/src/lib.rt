@@ -18,38 +18,33 @@ fn digit(n: u8) -> u8
     b'0' + n % 10
 }
 
-// Refusal in two digits, mode, partition in two digits, thread in three.
+// The line of an answer, into twelve lent bytes: refusal in two digits, mode, partition in two digits, thread in three. Each byte is written where it
+// lies: a line that is made first and then copied takes twice as long.
 #[tactic(auto, unfolding(model::specs::Answers::text_of, sheet::specs::Records::digits_of))]
-fn text(n: Numbers) -> [u8; 12]
-    ensures { result ≡ text_of (numbers_of n) }
+pub fn write(out: &mut [u8], verdict: Result<Decision, Refusal>)
+    requires { length out.old ≡ 12 }
+    ensures { out.new ≡ text_of (line_of verdict) }
 {
-    [
-        digit(n.refusal / 10),
-        digit(n.refusal),
-        b' ',
-        digit(n.mode),
-        b' ',
-        digit(n.partition / 10),
-        digit(n.partition),
-        b' ',
-        digit(n.thread / 10 / 10),
-        digit(n.thread / 10),
-        digit(n.thread),
-        b'\n',
-    ]
+    let n = Numbers::from(verdict);
+    out[0] = digit(n.refusal / 10);
+    out[1] = digit(n.refusal);
+    out[2] = b' ';
+    out[3] = digit(n.mode);
+    out[4] = b' ';
+    out[5] = digit(n.partition / 10);
+    out[6] = digit(n.partition);
+    out[7] = b' ';
+    out[8] = digit(n.thread / 10 / 10);
+    out[9] = digit(n.thread / 10);
+    out[10] = digit(n.thread);
+    out[11] = b'\n';
 }
 
 // The line of an answer.
 pub fn line(verdict: Result<Decision, Refusal>) -> [u8; 12]
     ensures { result ≡ text_of (line_of verdict) }
 {
-    text(Numbers::from(verdict))
-}
-
-// The line of an answer, into twelve lent bytes.
-pub fn write(out: &mut [u8], verdict: Result<Decision, Refusal>)
-    requires { length out.old ≡ 12 }
-    ensures { out.new ≡ text_of (line_of verdict) }
-{
-    out.copy_from_slice(&line(verdict));
+    let mut out = [0; 12];
+    write(&mut out, verdict);
+    out
 }
