@@ -21,19 +21,6 @@ pub records_more : (bytes : List ℕ) (i : ℕ) → events_in bytes (i + 1) ≡ 
 unfolding below
 records_more bytes i = rw add-one (map-append (event_at bytes) (below i) (i ∷ []))
 
--- the part of the events that is lent for record i
-pub record_part : (bytes : List ℕ) (i e : ℕ) → e ≡ min (12 * i + 12) (length bytes) → take (e - 12 * i) (drop (12 * i) bytes) ≡ event_at bytes i
-record_part bytes i e h = go (dec_le (12 * i + 12) (length bytes))
-  where
-    rest : List ℕ
-    rest = drop (12 * i) bytes
-
-    go : Dec (12 * i + 12 ≤ length bytes) → take (e - 12 * i) rest ≡ take 12 rest
-    go (yes b) = let w : e - 12 * i ≡ 12 = omega arith in ap (λ (n : ℕ). take n rest) w
-    go (no b) =
-        let w : e ≡ length bytes = omega arith in
-        take_all (e - 12 * i) rest (rw length-drop (omega arith)) ∙ sym (take_all 12 rest (rw length-drop (omega arith)))
-
 -- ---- states
 
 pub after_more : (v : Saved) (bs : List (List ℕ)) (b : List ℕ) → after v (bs ++ (b ∷ [])) ≡ (answer (after v bs) b).after

@@ -31,11 +31,9 @@ pub fn steps(
 {
     let mut clock = clock;
     let mut favoured = favoured;
-    for i in 0..n {
-        let at = 12 * i;
-        let end = (at + 12).min(events.len());
-        let answer = crate::step(settings, state, cache, clock, favoured, &events[at..end]);
-        lines::write(&mut out[at..at + 12], answer.verdict);
+    for (i, event) in events.chunks(12).take(n).enumerate() {
+        let answer = crate::step(settings, state, cache, clock, favoured, event);
+        lines::write(&mut out[12 * i..12 * i + 12], answer.verdict);
         clock = answer.clock;
         favoured = answer.favoured;
     }

@@ -66,7 +66,13 @@ pub fn step(
     ensures priced { cache.new.budgets ≡ cache.old.budgets }
     ensures loan { SameLoan state.old state.new }
 {
-    match admission::admit(settings, state.exists, state.ready, clock, event::decode(event)) {
+    match admission::admit(
+        settings,
+        state.exists,
+        state.ready,
+        clock,
+        event::decode(event),
+    ) {
         Err(refusal) => Stepped {
             verdict: Err(refusal),
             clock,

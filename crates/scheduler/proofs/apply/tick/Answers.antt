@@ -50,7 +50,7 @@ follow_turn-requires c =
     to_queue c.seen.ensures c.of-queue.ensures
     (λ core p n m q k. FollowedTurn core p n m q k (tops_of d.new.cache.leads) (firsts_of d.new.cache.leads) d.new.cache.sets.competing a.clock.running f.result)
     (subst (λ (z : Cache). FollowedTurn a.settings.core y.partitions.now y.priorities.now y.masks.now f.new.queue a.clock.queued (tops_of z.leads) (firsts_of z.leads) z.sets.competing a.clock.running f.result) (sym d.ensures.kept)
-        (followed_turn (ready t) t.requires.1 _ _ _ (ticked t) _ _ f.ensures.1 f.ensures.2 f.result f.ensures.0))
+    (followed_turn (ready t) t.requires.1 _ _ _ (ticked t) _ _ f.ensures.1 f.ensures.2 f.result f.ensures.0))
 
 pub returns-clause-applied : goal.returns-clause-applied
 returns-clause-applied c =
@@ -65,6 +65,6 @@ returns-clause-applied c =
     let z = l.new.self in
     transport (λ i. Applied a.settings (saved (state_of a.settings x.used.now a.clock (e.threads i) (e.queue i)) x.history.now) y.used.now d.result (with_slice_column (columns_in y) f.new.slices) f.new.queue y.history.now z.budgets (tops_of z.leads) (firsts_of z.leads) z.sets (bytes_of a.event))
     (tick_applied (ready t) t.requires.1 _ _ _ (ticked t) _ _ f.ensures.1 f.ensures.2
-        (l.ensures.rest.budgets ∙ ap (λ (z : Cache). z.budgets) e.kept) (l.ensures.rest.paying ∙ ap (λ (z : Cache). z.sets.paying) e.kept)
-        (subst (λ (n : ℕ). Reweighed x.used.now y.used.now a.cache.now.budgets (need a.settings) a.cache.now.sets.solvent n) (sym l.ensures.rest.solvent) e.weighed)
-        (of_queue c.seen.ensures c.of-queue.ensures (λ core p n m q k. KeptIn core p n m (take k q) (tops_of z.leads) (firsts_of z.leads) z.sets.competing) l.ensures.kept))
+    (l.ensures.rest.budgets ∙ ap (λ (z : Cache). z.budgets) e.kept) (l.ensures.rest.paying ∙ ap (λ (z : Cache). z.sets.paying) e.kept)
+    (subst (λ (n : ℕ). Reweighed x.used.now y.used.now a.cache.now.budgets (need a.settings) a.cache.now.sets.solvent n) (sym l.ensures.rest.solvent) e.weighed)
+    (of_queue c.seen.ensures c.of-queue.ensures (λ core p n m q k. KeptIn core p n m (take k q) (tops_of z.leads) (firsts_of z.leads) z.sets.competing) l.ensures.kept))

@@ -34,8 +34,8 @@ follow-requires c =
     to_queue s.ensures c.of.ensures
     (λ core p n m q i. Followed core s.result.ready.now p n m q i (tops_of k.leads) (firsts_of k.leads) k.sets.competing a.event.action a.event.thread home)
     (subst (λ (r : List ℕ). Followed a.settings.core r y.partitions.now y.priorities.now y.masks.now y.queue.now f.result (tops_of k.leads) (firsts_of k.leads) k.sets.competing a.event.action a.event.thread home)
-        (sym (ap (λ (t : Columns). t.ready) s.ensures.threads))
-        (followed g.0 g.1 g.2 d.new.used d.result.clock d.new.history (columns_in y) y.queue.now f.result d.ensures.0 f.ensures.acted f.ensures.regular a.event.action a.event.thread home refl refl refl))
+    (sym (ap (λ (t : Columns). t.ready) s.ensures.threads))
+    (followed g.0 g.1 g.2 d.new.used d.result.clock d.new.history (columns_in y) y.queue.now f.result d.ensures.0 f.ensures.acted f.ensures.regular a.event.action a.event.thread home refl refl refl))
 
 pub returns-clause-applied : goal.returns-clause-applied
 returns-clause-applied c =
