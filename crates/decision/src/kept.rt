@@ -38,7 +38,11 @@ impl Cache {
         let mut budgets = [0; 16];
         let paying = solvency::price(&mut budgets, settings);
         let mut leads = [Lead { top: 0, first: 255 }; 16];
-        let competing = leads::build(&mut leads, queue);
+        let line = ReadyQueue {
+            core: settings.core,
+            ..queue
+        };
+        let competing = leads::build(&mut leads, line);
         let need = units::need(settings.edition, settings.tick);
         let solvent = solvency::weigh_all(used, &budgets, need, settings.count);
         Cache {

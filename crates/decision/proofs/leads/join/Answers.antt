@@ -1,11 +1,7 @@
-use mathlib.Core.Path.{◌≡◌, sym, ap, ◌∙◌}
-use Prim.Native.Nat.{ℕ, ◌<◌}
-use mathlib.Core.List.{List}
-use lib.ListN.{length, get_or}
-use native.Mathlib.Omega.{arith}
+use mathlib.Core.Path.{sym, ap, ◌∙◌}
+use lib.ListN.{get_or}
 use Rattle.decision.specs.declared.leads.Lead.{Lead}
 use Rattle.decision.specs.Leads.{tops_of, firsts_of, raised_by}
-use Rattle.decision.specs.Keeping.{Joins}
 use Rattle.decision.proofs.LeadsArray.{tops_set, firsts_set, lead_at}
 use Rattle.decision.proofs.LeadsLaws.{join_none, join_raised}
 use Rattle.decision.proofs.leads.join.Goals as goal

@@ -1,11 +1,9 @@
-use mathlib.Core.Path.{◌≡◌, refl, sym, ap, subst, ◌∙◌}
+use mathlib.Core.Path.{◌≡◌, refl, sym, ap, ◌∙◌}
 use mathlib.Core.List.{List, [], ◌∷◌, ◌++◌, append_assoc, append-nil}
-use Prim.Native.Nat.{ℕ, ◌<◌}
+use Prim.Native.Nat.{ℕ}
 use native.Mathlib.Omega.{arith}
 use lib.ListN.{length, get_or, take}
 use Rattle.decision.specs.Leads.{lead_in, numbers, runnable, tops_of, firsts_of}
-use Rattle.decision.specs.Keeping.{Stale}
-use Rattle.decision.specs.declared.leads.Lead.{Lead}
 use Rattle.decision.proofs.LeadsArray.{tops_set, firsts_set, top_at}
 use Rattle.decision.proofs.LeadsLaws.{stale_none, stale_step, walk_none, walk_past, walk_here, walk_stop, next_inside}
 use Rattle.decision.proofs.leads.renew.Goals as goal

@@ -1,7 +1,6 @@
-use mathlib.Core.Path.{◌≡◌, refl, sym, ap, subst, ◌∙◌}
+use mathlib.Core.Path.{refl, sym, subst}
 use Prim.Native.Nat.{ℕ}
 use Rattle.units.specs.declared.Comparison.{Comparison}
-use Rattle.sets.specs.Bits.{Only}
 use Rattle.decision.proofs.NarrowingLaws.{Passed, passed_start, passed_value, passed_all}
 use Rattle.decision.proofs.narrowing.best.Goals as goal
 
