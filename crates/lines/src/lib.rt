@@ -5,7 +5,6 @@ pub mod numbers;
 
 ghost use Rattle.std.specs.Prelude.{◌≡◌, ◌+◌, ◌%◌, length};
 ghost use Rattle.model.specs.Answers.{line_of, text_of};
-ghost use Rattle.lines.specs.Numbers.{numbers_of};
 
 use model::Decision;
 use numbers::Numbers;
