@@ -1,11 +1,13 @@
 -- The leads as they are kept, one after the other, are two lists of numbers.
-use mathlib.Core.Path.{◌≡◌, sym}
+use mathlib.Core.Path.{◌≡◌, refl, sym, ◌∙◌}
 use Prim.Native.Nat.{ℕ}
 use mathlib.Core.List.{List}
 use lib.ListN.{length, get_or, set, get_or-map}
 use Rattle.std.proofs.lemmas.List.{map-set, length-map}
 use Rattle.decision.specs.Leads.{tops_of, firsts_of}
+use Rattle.decision.specs.Upkeep.{LeadsAlone}
 use Rattle.decision.specs.declared.leads.Lead.{Lead}
+use Rattle.decision.specs.declared.kept.Cache.{Cache}
 
 pub tops_length : (l : List Lead) → length (tops_of l) ≡ length l
 tops_length l = length-map l (λ x. x.top)
@@ -29,3 +31,12 @@ first_at l p = get_or-map (λ (x : Lead). x.first) l p (record { top = 0; first 
 pub lead_at : (l : List Lead) (p : ℕ)
     → get_or l p (record { top = 0; first = 0 }) ≡ record { top = get_or (tops_of l) p 0; first = get_or (firsts_of l) p 0 }
 lead_at l p i = record { top = sym (top_at l p) i; first = sym (first_at l p) i }
+
+-- ---- beside what else is kept
+
+pub alone_none : {x : Cache} (leads : List Lead) (set : ℕ)
+    → LeadsAlone x (record { budgets = x.budgets; leads = leads; sets = record { paying = x.sets.paying; competing = set; solvent = x.sets.solvent } })
+alone_none leads set = record { budgets = refl; paying = refl; solvent = refl }
+
+pub alone_then : {x y z : Cache} → LeadsAlone x y → LeadsAlone y z → LeadsAlone x z
+alone_then a b = record { budgets = b.budgets ∙ a.budgets; paying = b.paying ∙ a.paying; solvent = b.solvent ∙ a.solvent }

@@ -6,8 +6,7 @@ ghost use Rattle.decision.specs.Follow.{FollowedOf, FollowedPriorityOf, Followed
 ghost use Rattle.decision.specs.Decides.{Favoured};
 ghost use Rattle.decision.specs.Upkeep.{HeldOf, works_for, worked_for, Works, DecidesWith, LeadsAlone};
 
-use crate::leads;
-use crate::leads::{Lead, ReadyQueue};
+use crate::leads::{Lead, NOBODY, ReadyQueue};
 use accounts::solvency;
 use event::kinds::Action;
 use model::{Decision, IDLE};
@@ -35,25 +34,23 @@ impl Cache {
         requires { Limits settings × LinedOf queue }
         ensures { HeldOf settings used.now queue.entry result }
     {
-        let mut budgets = [0; 16];
-        let paying = solvency::price(&mut budgets, settings);
-        let mut leads = [Lead { top: 0, first: 255 }; 16];
-        let line = ReadyQueue {
+        let mut cache = Cache {
+            budgets: [0; 16],
+            leads: [NOBODY; 16],
+            sets: Sets {
+                paying: 0,
+                competing: 0,
+                solvent: 0,
+            },
+        };
+        cache.sets.paying = solvency::price(&mut cache.budgets, settings);
+        cache.build(ReadyQueue {
             core: settings.core,
             ..queue
-        };
-        let competing = leads::build(&mut leads, line);
+        });
         let need = units::need(settings.edition, settings.tick);
-        let solvent = solvency::weigh_all(used, &budgets, need, settings.count);
-        Cache {
-            budgets,
-            leads,
-            sets: Sets {
-                paying,
-                competing,
-                solvent,
-            },
-        }
+        cache.sets.solvent = solvency::weigh_all(used, &cache.budgets, need, settings.count);
+        cache
     }
 
     // The decision, with the set of the favoured partition.
@@ -78,13 +75,7 @@ impl Cache {
     {
         if ended {
             let p = queue.partitions[running as usize];
-            self.sets.competing = leads::leave(
-                &mut self.leads,
-                queue,
-                self.sets.competing,
-                p,
-                running as u8,
-            );
+            self.leave(queue, p, running as u8);
         }
     }
 
@@ -94,32 +85,24 @@ impl Cache {
         ensures kept { KeptOf queue.entry self.new.leads self.new.sets.competing }
         ensures rest { LeadsAlone self.old self.new }
     {
-        let leads = &mut self.leads;
-        let competing = self.sets.competing;
-        self.sets.competing = match action {
-            Action::Ready => leads::join(leads, queue, competing, t),
-            Action::Block | Action::End => leads::leave(leads, queue, competing, p, t),
-            Action::SetPriority => follow_priority(leads, ready, queue, competing, t),
-            Action::Create | Action::Tick | Action::Resume | Action::Unknown => competing,
-        };
+        match action {
+            Action::Ready => self.join(queue, t),
+            Action::Block | Action::End => self.leave(queue, p, t),
+            Action::SetPriority => self.follow_priority(ready, queue, t),
+            Action::Create | Action::Tick | Action::Resume | Action::Unknown => {}
+        }
     }
-}
 
-// The leads after a changed priority and the move that goes with it: a thread that is not queued changes nothing.
-fn follow_priority(
-    leads: &mut [Lead; 16],
-    ready: &[u8; 64],
-    queue: ReadyQueue<'_>,
-    competing: u16,
-    t: u8,
-) -> u16
-    requires { (t < 64) × FollowedPriorityOf ready.now queue leads.old competing t }
-    ensures { KeptOf queue.entry leads.new result }
-{
-    if ready[t as usize] != 1 {
-        return competing;
+    // After a changed priority and the move that goes with it: a thread that is not queued changes nothing.
+    fn follow_priority(&mut self, ready: &[u8; 64], queue: ReadyQueue<'_>, t: u8)
+        requires { (t < 64) × FollowedPriorityOf ready.now queue self.old.leads self.old.sets.competing t }
+        ensures kept { KeptOf queue.entry self.new.leads self.new.sets.competing }
+        ensures rest { LeadsAlone self.old self.new }
+    {
+        if ready[t as usize] == 1 {
+            self.change(queue, t);
+        }
     }
-    leads::change(leads, queue, competing, t)
 }
 
 // The favoured partition as a set: the one that the running thread works for, or nothing while idle.

@@ -5,7 +5,9 @@ ghost use Rattle.model.specs.State.{may_run};
 ghost use Rattle.decision.specs.Leads.{raised_by};
 ghost use Rattle.decision.specs.Keeping.{KeptOf, StaleOf, LeftOf, ChangedOf, LinedOf, JoinsOf};
 ghost use Rattle.decision.specs.Seen.{queue_seen};
+ghost use Rattle.decision.specs.Upkeep.{LeadsAlone};
 
+use crate::kept::Cache;
 use model::StateRef;
 use sets::Members;
 use threads::masks;
@@ -16,6 +18,9 @@ pub struct Lead {
     pub top: u16,
     pub first: u8,
 }
+
+// The lead of no thread.
+pub const NOBODY: Lead = Lead { top: 0, first: 255 };
 
 // The ready queue of a core, lent to be looked at: the queued threads in their order, and of each thread the partition, the priority and the mask.
 #[derive(Clone, Copy)]
@@ -81,99 +86,100 @@ fn may_run(partition: u8, mask: u8, p: u8, core: u32) -> bool
     (partition == p) & masks::allowed(mask, core)
 }
 
-// Thread t has joined the queue at its tail. Gives the set of competing partitions.
-pub fn join(leads: &mut [Lead; 16], queue: ReadyQueue<'_>, competing: u16, t: u8) -> u16
-    requires { (t < 64) × (queue.core ≤ 7) × (get_or queue.partitions.now t 0 < 16) }
-    ensures { JoinsOf queue.entry t leads.old competing leads.new result }
-{
-    let at = t as usize;
-    if !masks::allowed(queue.masks[at], queue.core) {
-        return competing;
+impl Cache {
+    // Thread t has joined the queue at its tail.
+    pub fn join(&mut self, queue: ReadyQueue<'_>, t: u8)
+        requires { (t < 64) × (queue.core ≤ 7) × (get_or queue.partitions.now t 0 < 16) }
+        ensures joined { JoinsOf queue.entry t self.old.leads self.old.sets.competing self.new.leads self.new.sets.competing }
+        ensures rest { LeadsAlone self.old self.new }
+    {
+        let at = t as usize;
+        if masks::allowed(queue.masks[at], queue.core) {
+            let p = queue.partitions[at];
+            let here = p as usize;
+            self.leads[here] = raise(self.leads[here], queue.priorities[at], t);
+            self.sets.competing = sets::put(self.sets.competing, p);
+        }
     }
-    let p = queue.partitions[at];
-    let here = p as usize;
-    leads[here] = raise(leads[here], queue.priorities[at], t);
-    sets::put(competing, p)
-}
 
-// All leads from the queue, in one pass. Gives the set of competing partitions.
-pub fn build(leads: &mut [Lead; 16], queue: ReadyQueue<'_>) -> u16
-    requires { LinedOf queue }
-    ensures { KeptOf queue.entry leads.new result }
-{
-    *leads = [Lead { top: 0, first: 255 }; 16];
-    let mut set = 0;
-    for t in queue.line() {
-        set = join(leads, queue, set, *t);
+    // All leads from the queue, in one pass.
+    pub fn build(&mut self, queue: ReadyQueue<'_>)
+        requires { LinedOf queue }
+        ensures kept { KeptOf queue.entry self.new.leads self.new.sets.competing }
+        ensures rest { LeadsAlone self.old self.new }
+    {
+        self.leads = [NOBODY; 16];
+        self.sets.competing = 0;
+        for t in queue.line() {
+            self.join(queue, *t);
+        }
     }
-    set
-}
 
-// The leads of some partitions anew, each by a walk along the queue: document 01's nested search "over partitions and line entries". The outer
-// loop goes over the partitions, the loop in it over the queue; it yields the lead by `break`, at the latest at the queue's end, and at once
-// where a thread has the priority that none is above. Gives the set of competing partitions.
-pub fn renew(leads: &mut [Lead; 16], queue: ReadyQueue<'_>, competing: u16, stale: u16) -> u16
-    requires { LinedOf queue × StaleOf queue leads.old competing stale }
-    ensures { KeptOf queue.entry leads.new result }
-{
-    let mut set = competing;
-    for p in Members(stale) {
-        let here = p as usize;
-        let ceiling = leads[here].top;
-        let mut best = Lead { top: 0, first: 255 };
-        let mut line = queue.line().iter();
-        let lead = loop {
-            let Some(t) = line.next() else {
-                break best;
-            };
-            let at = *t as usize;
-            if may_run(queue.partitions[at], queue.masks[at], p, queue.core) {
-                best = raise(best, queue.priorities[at], *t);
-                if best.top == ceiling {
+    // The leads of some partitions anew, each by a walk along the queue: document 01's nested search "over partitions and line entries". The outer
+    // loop goes over the partitions, the loop in it over the queue; it yields the lead by `break`, at the latest at the queue's end, and at once
+    // where a thread has the priority that none is above.
+    pub fn renew(&mut self, queue: ReadyQueue<'_>, stale: u16)
+        requires { LinedOf queue × StaleOf queue self.old.leads self.old.sets.competing stale }
+        ensures kept { KeptOf queue.entry self.new.leads self.new.sets.competing }
+        ensures rest { LeadsAlone self.old self.new }
+    {
+        for p in Members(stale) {
+            let here = p as usize;
+            let ceiling = self.leads[here].top;
+            let mut best = NOBODY;
+            let mut line = queue.line().iter();
+            let lead = loop {
+                let Some(t) = line.next() else {
                     break best;
+                };
+                let at = *t as usize;
+                if may_run(queue.partitions[at], queue.masks[at], p, queue.core) {
+                    best = raise(best, queue.priorities[at], *t);
+                    if best.top == ceiling {
+                        break best;
+                    }
                 }
-            }
-        };
-        leads[here] = lead;
-        set = sets::mark(set, p, lead.top != 0);
+            };
+            self.leads[here] = lead;
+            self.sets.competing = sets::mark(self.sets.competing, p, lead.top != 0);
+        }
     }
-    set
-}
 
-// Thread t of partition p has left its place in the queue: it is no longer in it, or it went to its tail. Its partition is walked anew only if the
-// thread was its first. Gives the set of competing partitions.
-pub fn leave(leads: &mut [Lead; 16], queue: ReadyQueue<'_>, competing: u16, p: u8, t: u8) -> u16
-    requires { (p < 16) × LinedOf queue × LeftOf queue leads.old competing p t }
-    ensures { KeptOf queue.entry leads.new result }
-{
-    if leads[p as usize].first != t {
-        return competing;
+    // Thread t of partition p has left its place in the queue: it is no longer in it, or it went to its tail. Its partition is walked anew only if
+    // the thread was its first.
+    pub fn leave(&mut self, queue: ReadyQueue<'_>, p: u8, t: u8)
+        requires { (p < 16) × LinedOf queue × LeftOf queue self.old.leads self.old.sets.competing p t }
+        ensures kept { KeptOf queue.entry self.new.leads self.new.sets.competing }
+        ensures rest { LeadsAlone self.old self.new }
+    {
+        if self.leads[p as usize].first == t {
+            self.renew(queue, sets::only(p));
+        }
     }
-    renew(leads, queue, competing, sets::only(p))
-}
 
-// The priority of the queued thread t has changed, and with it its place: raised it went to the tail, lowered to the head. Above its partition's top
-// it leads. Otherwise the lead stays, for who came level with the first is behind it; only where the first thread itself was lowered the partition is
-// walked anew. Gives the set of competing partitions.
-pub fn change(leads: &mut [Lead; 16], queue: ReadyQueue<'_>, competing: u16, t: u8) -> u16
-    requires { (t < 64) × LinedOf queue × ChangedOf queue leads.old competing t }
-    ensures { KeptOf queue.entry leads.new result }
-{
-    let at = t as usize;
-    if !masks::allowed(queue.masks[at], queue.core) {
-        return competing;
+    // The priority of the queued thread t has changed, and with it its place: raised it went to the tail, lowered to the head. Above its partition's
+    // top it leads. Otherwise the lead stays, for who came level with the first is behind it; only where the first thread itself was lowered the
+    // partition is walked anew.
+    pub fn change(&mut self, queue: ReadyQueue<'_>, t: u8)
+        requires { (t < 64) × LinedOf queue × ChangedOf queue self.old.leads self.old.sets.competing t }
+        ensures kept { KeptOf queue.entry self.new.leads self.new.sets.competing }
+        ensures rest { LeadsAlone self.old self.new }
+    {
+        let at = t as usize;
+        if !masks::allowed(queue.masks[at], queue.core) {
+            return;
+        }
+        let p = queue.partitions[at];
+        let here = p as usize;
+        let level = level_of(queue.priorities[at]);
+        let lead = self.leads[here];
+        if lead.top < level {
+            self.leads[here] = Lead {
+                top: level,
+                first: t,
+            };
+        } else if lead.first == t && lead.top != level {
+            self.renew(queue, sets::only(p));
+        }
     }
-    let p = queue.partitions[at];
-    let here = p as usize;
-    let level = level_of(queue.priorities[at]);
-    let lead = leads[here];
-    if lead.top < level {
-        leads[here] = Lead {
-            top: level,
-            first: t,
-        };
-    } else if lead.first == t && lead.top != level {
-        return renew(leads, queue, competing, sets::only(p));
-    }
-    competing
 }

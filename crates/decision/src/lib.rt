@@ -14,7 +14,7 @@ ghost use Rattle.decision.specs.Decides.{Decides};
 
 use kept::Sets;
 use leads::Lead;
-use model::{Decision, Mode};
+use model::{Decision, IDLE, Mode};
 
 // The order of partitions in a mode: which of has budget and top priority count, in this order, before the fraction used.
 #[derive(Clone, Copy)]
@@ -120,7 +120,7 @@ pub fn decide(
         return Decision {
             mode,
             partition: 0,
-            thread: 255,
+            thread: IDLE as u8,
         };
     }
     let order = order_in(mode, policy);

@@ -8,11 +8,10 @@ pub returns : goal.returns
 unfolding need
 returns c =
     let a = c.args in
-    let price = c.price-paying in
-    let weighed = c.weigh_all-solvent in
+    let x = c.build.new.self in
+    let weighed = c.weigh_all-cache in
     record {
-      priced = price.ensures;
-      led = c.build-competing.ensures;
-      weighed = subst (λ (x : ℕ). WeighedIn a.used.now price.new.budgets x a.settings.count weighed.result) c.need-need.ensures
-          weighed.ensures;
+      priced = rw (c.build.ensures.rest.budgets, c.build.ensures.rest.paying) c.price-cache.ensures;
+      led = c.build.ensures.kept;
+      weighed = subst (λ (n : ℕ). WeighedIn a.used.now x.budgets n a.settings.count weighed.result) c.need-need.ensures weighed.ensures;
     }

@@ -4,7 +4,8 @@ use Prim.Native.Nat.{ℕ}
 use lib.ListN.{take}
 use Rattle.decision.specs.Leads.{lead_in, numbers, runnable}
 use Rattle.decision.specs.Keeping.{StaleOf}
-use Rattle.decision.proofs.leads.renew.Given as goal
+use Rattle.decision.specs.Upkeep.{LeadsAlone}
+use Rattle.decision.proofs.kept.Cache.renew.Given as goal
 
 -- of the line some threads were seen, and the others are left
 abbrev pub invariant-loop-t : goal.invariant-loop-t
@@ -13,4 +14,4 @@ invariant-loop-t l =
     × (l.best ≡ lead_in (numbers l.queue.priorities.now) (runnable l.queue.core l.queue.partitions.now l.queue.masks.now l.p seen))
 
 abbrev pub invariant-loop-p : goal.invariant-loop-p
-invariant-loop-p l = StaleOf l.queue l.leads l.set l.p-iterator.0
+invariant-loop-p l = LeadsAlone l.fn.self l.self × StaleOf l.queue l.self.leads l.self.sets.competing l.p-iterator.0

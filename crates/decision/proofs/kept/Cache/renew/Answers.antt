@@ -4,10 +4,10 @@ use Prim.Native.Nat.{ℕ}
 use native.Mathlib.Omega.{arith}
 use lib.ListN.{length, get_or, take}
 use Rattle.decision.specs.Leads.{lead_in, numbers, runnable, tops_of, firsts_of}
-use Rattle.decision.proofs.LeadsArray.{tops_set, firsts_set, top_at}
+use Rattle.decision.proofs.LeadsArray.{alone_none, alone_then, tops_set, firsts_set, top_at}
 use Rattle.decision.proofs.LeadsLaws.{stale_none, stale_step, walk_none, walk_past, walk_here, walk_stop, next_inside}
-use Rattle.decision.proofs.leads.renew.Goals as goal
-use Rattle.decision.proofs.leads.renew.Goals.{in_default, in-Some-next+then-may_run+then-best-ceiling}
+use Rattle.decision.proofs.kept.Cache.renew.Goals as goal
+use Rattle.decision.proofs.kept.Cache.renew.Goals.{in_default, in-Some-next+then-may_run+then-best-ceiling}
 
 none_left : (l : List ℕ) → length l ≡ 0 → l ≡ []
 none_left [] e = refl
@@ -57,7 +57,7 @@ loop-t-preserved c =
 pub loop-p-preserved : goal.loop-p-preserved
 loop-p-preserved c =
     let q = c.args.queue in
-    let leads = c.loop-p.leads in
+    let leads = c.loop-p.self.leads in
     let p = c.in-Some.p in
     let step = c.in-Some.ensures.steps in
     let line = take q.queued q.queue.now in
@@ -74,15 +74,20 @@ loop-p-preserved c =
           (sym w.may_run.ensures ∙ w.if-may_run.true) f w.raise-best.ensures in
           let whole : (seen ++ (t ∷ [])) ++ rest ≡ line = append_assoc seen (t ∷ []) rest ∙ ap (λ (l : List ℕ). seen ++ l) (sym w.in-Some-next.ensures.steps) ∙ e in
           w.lead-is ∙ walk_stop q.core q.partitions.now q.priorities.now q.masks.now p (seen ++ (t ∷ [])) rest (get_or (tops_of leads) p 0) w.raise-best.result
-          here (w.if-best-ceiling.true ∙ sym (top_at leads p)) (rw whole (c.loop-p.invariant.below p step.0.inside step.0.here))
+          here (w.if-best-ceiling.true ∙ sym (top_at leads p)) (rw whole (c.loop-p.invariant.1.below p step.0.inside step.0.here))
           ∙ ap (λ (l : List ℕ). lead_in (numbers q.priorities.now) (runnable q.core q.partitions.now q.masks.now p l)) whole
     ] in
-    rw (tops_set leads p c.match-next-2.lead, firsts_set leads p c.match-next-2.lead)
-    (stale_step q.core q.partitions.now q.priorities.now q.masks.now line (tops_of leads) (firsts_of leads) c.loop-p.set c.loop-p.p-iterator.0 p c.next.new.self.0
-    c.mark-set.result c.match-next-2.lead step.0 (step.1.1 p step.0) lead c.mark-set.ensures c.loop-p.invariant)
+    let stale = stale_step q.core q.partitions.now q.priorities.now q.masks.now line (tops_of leads) (firsts_of leads) c.loop-p.self.sets.competing
+    c.loop-p.p-iterator.0 p c.next.new.self.0 c.mark-self.result c.match-next-2.lead step.0 (step.1.1 p step.0) lead c.mark-self.ensures c.loop-p.invariant.1 in
+    (alone_then c.loop-p.invariant.0 (alone_none _ _), rw (tops_set leads p c.match-next-2.lead, firsts_set leads p c.match-next-2.lead) stale)
 
 pub returns : goal.returns
 returns c =
     let q = c.args.queue in
-    stale_none q.core q.partitions.now q.priorities.now q.masks.now (take q.queued q.queue.now) (tops_of c.loop-p.leads) (firsts_of c.loop-p.leads) c.loop-p.set
-    c.loop-p.p-iterator.0 c.in-None.ensures.steps.0 c.loop-p.invariant
+    let x = c.loop-p.self in
+    record {
+      kept =
+          stale_none q.core q.partitions.now q.priorities.now q.masks.now (take q.queued q.queue.now) (tops_of x.leads) (firsts_of x.leads) x.sets.competing
+          c.loop-p.p-iterator.0 c.in-None.ensures.steps.0 c.loop-p.invariant.1;
+      rest = c.loop-p.invariant.0;
+    }
