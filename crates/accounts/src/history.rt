@@ -28,7 +28,17 @@ pub fn charge_slot(history: &mut [u32], window: Ticks, partition: u8, slot: Tick
     charge_row(&mut history[start..start + w], slot, amount);
 }
 
-// Every row is cleared: each row's part of the lent history is lent on to be filled with zeros.
+// A row is cleared. By a loop of its own, which makes one run of zeros of all rows: `fill` writes a row's last number by itself, and clearing the rows
+// takes three times as long.
+fn clear_row(row: &mut [u32])
+    ensures { row.new ≡ replicate (length row.old) 0 }
+{
+    for number in row.iter_mut() {
+        *number = 0;
+    }
+}
+
+// Every row is cleared: each row's part of the lent history is lent on to the function that clears it.
 pub fn clear_rows(history: &mut [u32], window: Ticks, count: u32)
     requires { count * window.0 ≤ length history.old }
     ensures { history.new ≡ replicate (count * window.0) 0 ++ drop (count * window.0) history.old }
@@ -36,6 +46,6 @@ pub fn clear_rows(history: &mut [u32], window: Ticks, count: u32)
     let w = window.0 as usize;
     for p in 0..count {
         let start = p as usize * w;
-        history[start..start + w].fill(0);
+        clear_row(&mut history[start..start + w]);
     }
 }

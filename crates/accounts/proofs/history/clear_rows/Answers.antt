@@ -17,5 +17,5 @@ loop-p-preserved c =
     let ends : at + w ≤ length turn.history = omega (arith, row_end turn.p c.args.count w c.loop-p-test.true) in
     let size : n ≡ w = omega arith in
     let long : length (take n (drop at turn.history)) ≡ w = simp (length-take, length-drop) (omega arith) in
-    let row : c.fill.new.self ≡ replicate w 0 = c.fill.ensures.after (λ y e. e) ∙ ap (λ (k : ℕ). replicate k 0) long in
+    let row : c.clear_row.new.row ≡ replicate w 0 = c.clear_row.ensures ∙ ap (λ (k : ℕ). replicate k 0) long in
     ap (put_mid at n turn.history) row ∙ cleared_more w turn.p n c.args.history.now turn.history (replicate w 0) size refl turn.invariant
