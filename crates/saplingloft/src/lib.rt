@@ -54,7 +54,7 @@ pub extern "C" fn saplingloft_lent_start(
         history,
     };
     let outcome = doors::start::start(sheet, settings, shares, clock, &mut state);
-    numbers::outcome_number(outcome) as u32
+    u32::from(numbers::outcome_number(outcome))
 }
 
 // An event of any bytes. The answer holds refusal, mode, partition and thread, a byte each, the refusal lowest.
@@ -136,7 +136,7 @@ fn tell(balance: Result<i64, Refusal>, remaining: &mut [u32; 1]) -> u32
     ensures { RemainderTold (remainder_of balance) remaining.old result remaining.new }
 {
     match balance {
-        Err(refusal) => u8::from(refusal) as u32,
+        Err(refusal) => u32::from(u8::from(refusal)),
         Ok(cycles) => {
             *remaining = [units::word(cycles)];
             0
@@ -194,13 +194,10 @@ pub extern "C" fn saplingloft_lent_read_sheet(
     ensures { SheetRead sheet.now settings.old shares.old result settings.new shares.new }
 {
     let reading = sheet::read_sheet(sheet);
-    match reading.outcome {
-        Err(refusal) => u8::from(refusal) as u32,
-        Ok(()) => {
-            words::keep_settings(settings, shares, reading.settings);
-            0
-        }
+    if reading.outcome.is_ok() {
+        words::keep_settings(settings, shares, reading.settings);
     }
+    u32::from(numbers::outcome_number(reading.outcome))
 }
 
 // Settings and shares as a sheet, at the start of the lent bytes. The answer is the refusal, or 0; nothing is written beside a refusal.
@@ -213,5 +210,5 @@ pub extern "C" fn saplingloft_lent_write_sheet(
     ensures { SheetWritten settings.now shares.now sheet.old result sheet.new }
 {
     let writing = sheet::write_sheet(words::settings_in(settings, shares), sheet);
-    numbers::outcome_number(writing.outcome) as u32
+    u32::from(numbers::outcome_number(writing.outcome))
 }

@@ -45,5 +45,5 @@ pub extern "C" fn saplingloft_lent_run(
         history,
     };
     let outcome = doors::batch::run(settings, shares, clock, &mut state, events, lines);
-    numbers::outcome_number(outcome) as u32
+    u32::from(numbers::outcome_number(outcome))
 }
