@@ -66,21 +66,21 @@ wrong_turn e o l a w f s b low = rw (← or_none a w, f b, s low) (go (ℕ_discr
 
 -- ---- what is joined
 
-least_both : (a b : ℕ) → ltb 0 (min a b) ≡ (ltb 0 a && ltb 0 b)
+least_both : (a b : ℕ) → ltb 0 (min b a) ≡ (ltb 0 a && ltb 0 b)
 least_both a b = go (dec_lt 0 a) (dec_lt 0 b)
   where
-    go : Dec (0 < a) → Dec (0 < b) → ltb 0 (min a b) ≡ (ltb 0 a && ltb 0 b)
-    go (yes p) (yes q) = rw (lt-ltb 0 (min a b) (omega arith), lt-ltb 0 a p, lt-ltb 0 b q)
-    go (yes p) (no q) = rw (le-ltb 0 (min a b) (omega arith), lt-ltb 0 a p, le-ltb 0 b (omega arith))
-    go (no p) q = rw (le-ltb 0 (min a b) (omega arith), le-ltb 0 a (omega arith))
+    go : Dec (0 < a) → Dec (0 < b) → ltb 0 (min b a) ≡ (ltb 0 a && ltb 0 b)
+    go (yes p) (yes q) = rw (lt-ltb 0 (min b a) (omega arith), lt-ltb 0 a p, lt-ltb 0 b q)
+    go (yes p) (no q) = rw (le-ltb 0 (min b a) (omega arith), lt-ltb 0 a p, le-ltb 0 b (omega arith))
+    go (no p) q = rw (le-ltb 0 (min b a) (omega arith), le-ltb 0 a (omega arith))
 
-most_both : (a b n : ℕ) → ltb (max a b) n ≡ (ltb a n && ltb b n)
+most_both : (a b n : ℕ) → ltb (max b a) n ≡ (ltb a n && ltb b n)
 most_both a b n = go (dec_lt a n) (dec_lt b n)
   where
-    go : Dec (a < n) → Dec (b < n) → ltb (max a b) n ≡ (ltb a n && ltb b n)
-    go (yes p) (yes q) = rw (lt-ltb (max a b) n (omega arith), lt-ltb a n p, lt-ltb b n q)
-    go (yes p) (no q) = rw (le-ltb (max a b) n (omega arith), lt-ltb a n p, le-ltb b n (omega arith))
-    go (no p) q = rw (le-ltb (max a b) n (omega arith), le-ltb a n (omega arith))
+    go : Dec (a < n) → Dec (b < n) → ltb (max b a) n ≡ (ltb a n && ltb b n)
+    go (yes p) (yes q) = rw (lt-ltb (max b a) n (omega arith), lt-ltb a n p, lt-ltb b n q)
+    go (yes p) (no q) = rw (le-ltb (max b a) n (omega arith), lt-ltb a n p, le-ltb b n (omega arith))
+    go (no p) q = rw (le-ltb (max b a) n (omega arith), le-ltb a n (omega arith))
 
 apart : (a b c w x y : Bool) → ((a && w) && (b && x) && (c && y)) ≡ ((a && b && c) && (w && x && y))
 apart true true true w x y = refl
@@ -93,7 +93,7 @@ abbrev pub answer : ℕ → ℕ → ℕ → ℕ → Bool
 answer count rest least most = eqb rest 0 && ltb 0 least && ltb most count
 
 joined : (count rest least most a b p : ℕ)
-    → answer count (bit_or rest a) (min least b) (max most p) ≡ (answer count rest least most && answer count a b p)
+    → answer count (bit_or rest a) (min b least) (max p most) ≡ (answer count rest least most && answer count a b p)
 joined count rest least most a b p =
     rw (← or_none rest a, least_both least b, most_both most p count)
     (apart (eqb rest 0) (ltb 0 least) (ltb most count) (eqb a 0) (ltb 0 b) (ltb p count))
@@ -214,7 +214,7 @@ module _ (count : ℕ) (ts : Columns) where
       → OfExisting (get_or ts.exists t 0) (get_or ts.masks t 0) b
       → WrongTurn (get_or ts.exists t 0) (get_or ts.policies t 0) (get_or ts.slices t 0) w
       → WrongFlag (bit_or (bit_or (get_or ts.exists t 0) (get_or ts.ready t 0)) (get_or ts.policies t 0)) d
-      → answer count (bit_or rest (bit_or d (bit_or a w))) (min least b) (max most (get_or ts.partitions t 0)) ≡ (answer count rest least most && fine count ts t)
+      → answer count (bit_or rest (bit_or d (bit_or a w))) (min b least) (max (get_or ts.partitions t 0) most) ≡ (answer count rest least most && fine count ts t)
   unfolding sound_thread sound_slice
   fine_more t rest least most a b w d h f g s v =
       joined count rest least most (bit_or d (bit_or a w)) b (get_or ts.partitions t 0)

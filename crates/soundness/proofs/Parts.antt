@@ -33,14 +33,14 @@ queue_long r q n e = rw e
 
 pub queue_parts : (r q : List ℕ) (n : ℕ) (seen : List ℕ) (a b z : Bool) → leb n 64 ≡ true
     → SeenOnce (take n q) a seen
-    → length r ≡ 64 → length seen ≡ 64 → b ≡ pointwise eqb r seen
+    → b ≡ all (λ t. eqb (get_or r t 0) (get_or seen t 0)) (below 64)
     → z ≡ all (eqb 0) (drop n q)
     → (a && b && z) ≡ holds_ready r q n
 unfolding holds_ready
-queue_parts r q n seen a b z few m long full e f = go a refl
+queue_parts r q n seen a b z few m e f = go a refl
   where
     go : (w : Bool) → a ≡ w → (w && b && z) ≡ holds_ready r q n
     go true p =
         let ready = all_same (λ t. eqb (get_or r t 0) (get_or seen t 0)) (λ t. eqb (get_or r t 0) (flag (member t (take n q)))) 64 (λ t h. ap (eqb (get_or r t 0)) (m.marks p t h)) in
-        rw (few, sym m.once ∙ p, e ∙ compared r seen 64 long full ∙ ready, f)
+        rw (few, sym m.once ∙ p, e ∙ ready, f)
     go false p = rw (few, sym m.once ∙ p)

@@ -1,6 +1,6 @@
 // Whether the ready queue is sound: no thread stands in it twice, it holds exactly the ready threads, and its unused places are zero.
-ghost use Rattle.std.specs.Prelude.{◌≡◌, ◌≤◌, take, drop, replicate, nat_eq};
-ghost use Rattle.lists.specs.Lists.{all};
+ghost use Rattle.std.specs.Prelude.{◌≡◌, ◌≤◌, take, drop, replicate, nat_eq, slice_index};
+ghost use Rattle.lists.specs.Lists.{all, below};
 ghost use Rattle.soundness.specs.Queue.{holds_ready, SeenOnce};
 
 // The first n entries are marked in `seen`, and the answer is whether each stands there once and is a thread's number. An entry above 63
@@ -19,6 +19,18 @@ fn mark(queue: &[u8; 64], n: u32, seen: &mut [u8; 64]) -> bool
         seen[at] = 1;
     }
     (again == 0) & (bits < 64)
+}
+
+// Two arrays of flags are the same. The differences' bits are joined.
+fn equal(a: &[u8; 64], b: &[u8; 64]) -> bool
+    ensures { result ≡ all (λ t. nat_eq (slice_index a.now t) (slice_index b.now t)) (below 64) }
+{
+    let mut bits: u8 = 0;
+    for t in 0..64u32 {
+        let at = t as usize;
+        bits |= a[at] ^ b[at];
+    }
+    bits == 0
 }
 
 // "unused places of the line .. all zero": from place n on.
@@ -42,5 +54,5 @@ pub fn sound_queue(ready: &[u8; 64], queue: &[u8; 64], queued: u32) -> bool
     }
     let mut seen = [0u8; 64];
     let once = mark(queue, queued, &mut seen);
-    once & (*ready == seen) & zeros_from(queue, queued)
+    once & equal(ready, &seen) & zeros_from(queue, queued)
 }

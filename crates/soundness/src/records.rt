@@ -64,8 +64,8 @@ pub fn sound_threads(state: StateRef<'_>, count: u8) -> bool
         let l = state.slices[at];
         let wrong = of_absent(e, r | p | n | m) | wrong_turn(e, o, l);
         rest |= wrong_flag(e | r | o) | wrong;
-        least = least.min(of_existing(e, m));
-        most = most.max(p);
+        least = of_existing(e, m).min(least);
+        most = p.max(most);
     }
     (rest == 0) & (0 < least) & (most < count)
 }

@@ -33,7 +33,8 @@ fn add_row(row: &[u32], sums: &mut [u32; 100]) -> Option<Cycles>
         sum = sum.wrapping_add(x);
         sums[at] = sums[at].wrapping_add(x);
     }
-    if bits < 4194304 {
+    let narrow = bits < 4194304;
+    if narrow {
         Some(Cycles(sum))
     } else {
         None

@@ -1,5 +1,4 @@
 -- `sound_queue` is the test of the ready queue.
-use Rattle.std.proofs.Common.{arith}
 use borrow.Author.Tests.{le-leb, lt-leb}
 use Rattle.soundness.proofs.Parts.{queue_long, queue_parts}
 use Rattle.soundness.proofs.queue.sound_queue.Goals as goal
@@ -13,4 +12,4 @@ pub returns : goal.returns
 returns c =
     let a = c.args in
     queue_parts a.ready.now a.queue.now a.queued _ _ _ _ (le-leb a.queued 64 c.if-queued-gt64.false)
-    c.mark-once.ensures (omega arith) (omega arith) c.eq.ensures c.zeros_from.ensures
+    c.mark-once.ensures c.equal.ensures c.zeros_from.ensures

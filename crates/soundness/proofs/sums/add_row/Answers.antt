@@ -22,24 +22,24 @@ loop-k-preserved c =
       slots = added_more (λ i. get_or l i 0) c.args.sums.now turn.sums turn.k _ (omega arith) refl turn.invariant.slots;
     }
 
-pub returns-then-bits-lt4194304 : goal.returns-then-bits-lt4194304
+pub returns-then-narrow : goal.returns-then-narrow
 unfolding all_narrow
-returns-then-bits-lt4194304 c =
+returns-then-narrow c =
     let turn = c.loop-k in
     let l = c.args.row.now in
     let e : turn.k ≡ length l = omega arith in
     record {
-      told = (sym (rw e at turn.invariant.narrow) ∙ lt-ltb turn.bits 4194304 c.if-bits-lt4194304.true, rw (e, take-length l) at turn.invariant.total);
+      told = (sym (rw e at turn.invariant.narrow) ∙ lt-ltb turn.bits 4194304 c.if-narrow.true, rw (e, take-length l) at turn.invariant.total);
       slots = rw e at turn.invariant.slots;
     }
 
-pub returns-else-bits-lt4194304 : goal.returns-else-bits-lt4194304
+pub returns-else-narrow : goal.returns-else-narrow
 unfolding all_narrow
-returns-else-bits-lt4194304 c =
+returns-else-narrow c =
     let turn = c.loop-k in
     let l = c.args.row.now in
     let e : turn.k ≡ length l = omega arith in
     record {
-      told = sym (rw e at turn.invariant.narrow) ∙ le-ltb turn.bits 4194304 c.if-bits-lt4194304.false;
+      told = sym (rw e at turn.invariant.narrow) ∙ le-ltb turn.bits 4194304 c.if-narrow.false;
       slots = rw e at turn.invariant.slots;
     }
