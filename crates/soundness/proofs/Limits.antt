@@ -1,5 +1,5 @@
 -- The test of the settings, and the number by which a state is refused.
-use Rattle.std.proofs.Common.{◌≡◌, ℕ, ◌*◌, ◌<◌, ◌≤◌, Bool, true, false, List, length, sym, refl, ◌∙◌, le-ltb, lt-ltb, eq-eqb}
+use Rattle.std.proofs.Common.{◌≡◌, ℕ, ◌*◌, ◌<◌, ◌≤◌, Bool, true, false, length, sym, refl, ◌∙◌, le-ltb, lt-ltb, eq-eqb}
 use Rattle.std.specs.Prelude.{Result, Ok, Err, ⊤, is_err}
 use Rattle.lists.proofs.Tests.{clash}
 use Rattle.refusals.specs.Refusals.{number_of, outcome_of}
@@ -8,8 +8,9 @@ use Rattle.refusals.proofs.Laws.{never_zero}
 use Rattle.sheet.specs.Settings.{W, within_limits, refused_settings}
 use Rattle.sheet.specs.declared.Settings.{Settings}
 use Rattle.sheet.proofs.Within.{not_refused, within_limits_law}
-use Rattle.model.specs.Arrays.{Columns}
+use Rattle.model.specs.Arrays.{columns_seen}
 use Rattle.model.specs.declared.Clock.{Clock}
+use Rattle.model.specs.declared.StateRef.{StateRef}
 use Rattle.model.specs.Lent.{refused_arrays}
 use Rattle.soundness.specs.Refused.{sound_in}
 
@@ -28,21 +29,24 @@ module _ (c : Settings) where
 
 -- ---- what is refused
 
-module _ (c : Settings) (u : List ℕ) (k : Clock) (ts : Columns) (q h : List ℕ) where
-  pub refused_settings_law : within_limits c ≡ false → 8 ≡ refused_arrays c u k ts q h
+module _ (c : Settings) (k : Clock) (x : StateRef) where
+  abbrev number : ℕ
+  number = refused_arrays c x.used.now k (columns_seen x) x.queue.now x.history.now
+
+  pub refused_settings_law : within_limits c ≡ false → 8 ≡ number
   unfolding refused_arrays
-  refused_settings_law x = rw x
+  refused_settings_law e = rw e
 
   module _ (within : within_limits c ≡ true) where
-    pub refused_short : length h < c.count * W c → 7 ≡ refused_arrays c u k ts q h
+    pub refused_short : length x.history.now < c.count * W c → 7 ≡ number
     unfolding refused_arrays
-    refused_short x = rw (within, lt-ltb (length h) (c.count * W c) x)
+    refused_short e = rw (within, lt-ltb (length x.history.now) (c.count * W c) e)
 
-    module _ (long : c.count * W c ≤ length h) (b : Bool) (is : b ≡ sound_in c u k ts q h) where
-      pub refused_sound : b ≡ true → 0 ≡ refused_arrays c u k ts q h
+    module _ (long : c.count * W c ≤ length x.history.now) {b : Bool} (is : b ≡ sound_in c x.used.now k (columns_seen x) x.queue.now x.history.now) where
+      pub refused_sound : b ≡ true → 0 ≡ number
       unfolding refused_arrays
-      refused_sound z = rw (within, le-ltb (length h) (c.count * W c) long, sym is ∙ z)
+      refused_sound e = rw (within, le-ltb (length x.history.now) (c.count * W c) long, sym is ∙ e)
 
-      pub refused_unsound : b ≡ false → 8 ≡ refused_arrays c u k ts q h
+      pub refused_unsound : b ≡ false → 8 ≡ number
       unfolding refused_arrays
-      refused_unsound z = rw (within, le-ltb (length h) (c.count * W c) long, sym is ∙ z)
+      refused_unsound e = rw (within, le-ltb (length x.history.now) (c.count * W c) long, sym is ∙ e)

@@ -1,8 +1,8 @@
 -- How the answers of the passes make up the test of the ready queue.
-use Rattle.std.proofs.Common.{◌≡◌, ℕ, Bool, true, false, ◌&&◌, eqb, leb, List, length, get_or, take, drop, sym, refl, ap, ◌∙◌, eq-eqb, ne_eqb, eqb-true}
+use Rattle.std.proofs.Common.{◌≡◌, ℕ, Bool, true, false, ◌&&◌, eqb, leb, List, length, get_or, take, drop, sym, refl, ap, ◌∙◌, arith, eq-eqb, eqb-true}
 use Rattle.std.proofs.lemmas.List.{ext_get_or}
+use Rattle.std.proofs.lemmas.Bool.Decides.{nat_tests}
 use lib.Pointwise.{pointwise, bytes_decides}
-use native.Mathlib.Decide.{ℕ_discrete}
 use Rattle.lists.specs.Lists.{below, all, member}
 use Rattle.lists.proofs.Tests.{same}
 use Rattle.lists.proofs.All.{all_below, below_all}
@@ -11,11 +11,7 @@ use Rattle.model.specs.Arrays.{flag}
 use Rattle.soundness.specs.Queue.{holds_ready, SeenOnce}
 
 pub zero_same : (x : ℕ) → eqb x 0 ≡ eqb 0 x
-zero_same x = go (ℕ_discrete x 0)
-  where
-    go : Dec (x ≡ 0) → eqb x 0 ≡ eqb 0 x
-    go (yes e) = rw (eq-eqb x 0 e, eq-eqb 0 x (sym e))
-    go (no e) = rw (ne_eqb x 0 e, ne_eqb 0 x (λ z. e (sym z)))
+zero_same x = grind (arith, nat_tests)
 
 -- lists of n numbers are the same where each number is
 pub compared : (a b : List ℕ) (n : ℕ) → length a ≡ n → length b ≡ n → pointwise eqb a b ≡ all (λ t. eqb (get_or a t 0) (get_or b t 0)) (below n)
@@ -26,10 +22,6 @@ compared a b n e f =
   where
     alike : ℕ → Bool
     alike t = eqb (get_or a t 0) (get_or b t 0)
-
-pub queue_long : (r q : List ℕ) (n : ℕ) → leb n 64 ≡ false → false ≡ holds_ready r q n
-unfolding holds_ready
-queue_long r q n e = rw e
 
 pub queue_parts : (r q : List ℕ) (n : ℕ) (seen : List ℕ) (a b z : Bool) → leb n 64 ≡ true
     → SeenOnce (take n q) a seen

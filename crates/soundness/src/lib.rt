@@ -38,6 +38,7 @@ fn rest_zero(settings: Settings, used: &[u32; 16]) -> bool
 }
 
 // "the running one idle, or in the line and allowed"
+#[tactic(auto, using(std::proofs::lemmas::Bool::Decides::nat_tests), unfolding(crate::specs::Refused::running_fits))]
 fn running_fits(ready: &[u8; 64], masks: &[u8; 64], running: u32, core: u32) -> bool
     requires { core ≤ 7 }
     ensures { result ≡ running_fits ready.now masks.now running core }

@@ -46,6 +46,7 @@ fn zeros_from(queue: &[u8; 64], n: u32) -> bool
 }
 
 // "the line without repeats and holding exactly the ready threads .. unused places of the line .. all zero"
+#[tactic(auto, using(std::proofs::lemmas::Bool::Decides::nat_tests), unfolding(crate::specs::Queue::holds_ready))]
 pub fn sound_queue(ready: &[u8; 64], queue: &[u8; 64], queued: u32) -> bool
     ensures { result ≡ holds_ready ready.now queue.now queued }
 {

@@ -6,6 +6,7 @@ ghost use Rattle.soundness.specs.Records.{sound_records, OfAbsent, OfExisting, W
 use model::StateRef;
 
 // A byte of a thread that does not exist, and 0 of one that does. The flag less 1 is 255 or 0.
+#[tactic(auto, using(crate::proofs::Clauses::of_absent))]
 fn of_absent(exists: u8, byte: u8) -> u8
     ensures { OfAbsent exists byte result }
 {
@@ -13,6 +14,7 @@ fn of_absent(exists: u8, byte: u8) -> u8
 }
 
 // A byte of a thread that exists, and 255 of one that does not.
+#[tactic(auto, using(crate::proofs::Clauses::of_existing))]
 fn of_existing(exists: u8, byte: u8) -> u8
     ensures { OfExisting exists byte result }
 {
@@ -28,6 +30,7 @@ fn wrong_flag(byte: u8) -> u8
 
 // A byte that is 0 where a thread of this policy, 0 or 1, may have this slice: 1 to 4 for round robin, otherwise 0. The slice less the policy is
 // then at most 3, the lowest two bits, for round robin, and 0 otherwise.
+#[tactic(auto, using(crate::proofs::Clauses::wrong_slice))]
 fn wrong_slice(policy: u8, slice: u8) -> u8
     ensures { WrongSlice policy slice result }
 {
@@ -36,6 +39,7 @@ fn wrong_slice(policy: u8, slice: u8) -> u8
 
 // A byte that is 0 where a thread that exists may have this policy and this slice, and where both are 0 for one that does not. The slice of the
 // latter needs no test of its own: its policy must be 0, and so must then the slice.
+#[tactic(auto, using(crate::proofs::Clauses::wrong_turn))]
 fn wrong_turn(exists: u8, policy: u8, slice: u8) -> u8
     ensures { WrongTurn exists policy slice result }
 {

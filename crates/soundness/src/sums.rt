@@ -34,14 +34,11 @@ fn add_row(row: &[u32], sums: &mut [u32; 100]) -> Option<Cycles>
         sums[at] = sums[at].wrapping_add(x);
     }
     let narrow = bits < 4194304;
-    if narrow {
-        Some(Cycles(sum))
-    } else {
-        None
-    }
+    if narrow { Some(Cycles(sum)) } else { None }
 }
 
 // The first slots' sums are at most the given number.
+#[tactic(auto, using(lists::proofs::Loops::all_next), unfolding(lists::specs::Lists::all, lists::specs::Lists::below))]
 fn slots_within(sums: &[u32; 100], size: u32, most: Cycles) -> bool
     requires { size ≤ 100 }
     ensures { result ≡ all (λ k. nat_le (slice_index sums.now k) most.0) (below size) }

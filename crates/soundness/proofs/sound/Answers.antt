@@ -15,13 +15,13 @@ pub returns-then-not-sound_threads : goal.returns-then-not-sound_threads
 returns-then-not-sound_threads c =
     let a = c.args in
     let x = a.state in
-    bad_records a.settings x.used.now a.clock (columns_seen x) x.queue.now x.history.now c.requires.0 c.sound_threads.result c.sound_threads.ensures c.if-not-sound_threads.true
+    bad_records a.settings x.used.now a.clock (columns_seen x) x.queue.now x.history.now c.requires.0 c.sound_threads.ensures c.if-not-sound_threads.true
 
 pub returns-then-not-sound_queue : goal.returns-then-not-sound_queue
 returns-then-not-sound_queue c =
     let a = c.args in
     let x = a.state in
-    bad_queue a.settings x.used.now a.clock (columns_seen x) x.queue.now x.history.now c.requires.0 c.sound_queue.result c.sound_queue.ensures c.if-not-sound_queue.true
+    bad_queue a.settings x.used.now a.clock (columns_seen x) x.queue.now x.history.now c.requires.0 c.sound_queue.ensures c.if-not-sound_queue.true
 
 pub twice-most-requires : goal.twice-most-requires
 twice-most-requires c = omega (arith, (limits_of c.args.settings c.requires.0).tick_high)
@@ -43,7 +43,7 @@ returns c =
     let x = a.state in
     let most = c.twice-most.ensures in
     rw most (last_parts a.settings x.used.now a.clock (columns_seen x) x.queue.now x.history.now
-    c.requires.0 c.sound_threads.result c.sound_queue.result _ _ _
+    c.requires.0
     c.sound_threads.ensures c.if-not-sound_threads.false
     c.sound_queue.ensures c.if-not-sound_queue.false
     c.rest_zero.ensures c.running_fits.ensures (rw most at c.books_agree.ensures))

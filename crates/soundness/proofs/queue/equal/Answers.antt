@@ -1,5 +1,5 @@
 use Rattle.std.proofs.Common.{◌≡◌, ℕ, eqb, get_or, refl, arith, eq-eqb, ne_eqb}
-use lib.Bits.{bit_xor, bit_and, xor_self, xor_add_and, and_le_l, and_le_r}
+use lib.Bits.{bit_xor, xor_self, xor_add_and, and_le_l, and_le_r}
 use native.Mathlib.Decide.{ℕ_discrete}
 use Rattle.lists.specs.Lists.{all, below}
 use Rattle.lists.proofs.Loops.{all_next}

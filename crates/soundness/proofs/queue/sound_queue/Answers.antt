@@ -1,12 +1,7 @@
 -- `sound_queue` is the test of the ready queue.
-use borrow.Author.Tests.{le-leb, lt-leb}
-use Rattle.soundness.proofs.Parts.{queue_long, queue_parts}
+use borrow.Author.Tests.{le-leb}
+use Rattle.soundness.proofs.Parts.{queue_parts}
 use Rattle.soundness.proofs.queue.sound_queue.Goals as goal
-
-pub returns-then-queued-gt64 : goal.returns-then-queued-gt64
-returns-then-queued-gt64 c =
-    let a = c.args in
-    queue_long a.ready.now a.queue.now a.queued (lt-leb a.queued 64 c.if-queued-gt64.true)
 
 pub returns : goal.returns
 returns c =
