@@ -7,7 +7,7 @@ use native.Mathlib.Decide.{ℕ_discrete}
 use lib.ListN.{get_or}
 use lib.Seq.{ext_get_or}
 use denote.Param.Members.{Mut, Called}
-use Rattle.core.specs.Array.{IsFromFnResultFrom, IsFromFnResult}
+use Rattle.std.specs.Array.{IsFromFnResultFrom, IsFromFnResult}
 use Rattle.lists.specs.Lists.{below}
 use Rattle.lists.proofs.Tables.{table_length, table_at}
 
