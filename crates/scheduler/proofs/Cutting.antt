@@ -9,11 +9,11 @@ use native.Mathlib.Decide.{ℕ_discrete}
 use denote.Ref.{Bor}
 use Rattle.std.specs.Prelude.{Some, None}
 use Rattle.std.proofs.lemmas.List.{take_min, drop_min}
-use Rattle.core.specs.declared.iter.adapters.Enumerate.{Enumerate}
-use Rattle.core.specs.declared.iter.adapters.Take.{Take}
-use Rattle.core.specs.declared.iter.slices.Chunks.{Chunks}
-use Rattle.core.specs.Iterator.Adapters.{enumerate_source, enumerate_count, enumerate_steps, take_source, take_count, take_steps}
-use Rattle.core.specs.Slice.Iter.{chunks_rest, chunks_size, chunks_steps}
+use Rattle.std.specs.declared.iter.Enumerate.{Enumerate}
+use Rattle.std.specs.declared.iter.Take.{Take}
+use Rattle.std.specs.declared.slice.Chunks.{Chunks}
+use Rattle.std.specs.Iterator.Adapters.{enumerate_source, enumerate_count, enumerate_steps, take_source, take_count, take_steps}
+use Rattle.std.specs.Slice.Iter.{chunks_rest, chunks_size, chunks_steps}
 use Rattle.model.specs.Stream.{event_at, event_count}
 
 -- what is left is what follows the records that are counted, up to n of them

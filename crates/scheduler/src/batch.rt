@@ -16,8 +16,8 @@ pub fn steps(
     settings: Settings,
     state: &mut StateMut<'_>,
     cache: &mut Cache,
-    clock: Clock,
-    favoured: u16,
+    mut clock: Clock,
+    mut favoured: u16,
     events: &[u8],
     out: &mut [u8],
     n: usize,
@@ -29,8 +29,6 @@ pub fn steps(
     ensures priced { cache.new.budgets ≡ cache.old.budgets }
     ensures loan { SameLoan state.old state.new }
 {
-    let mut clock = clock;
-    let mut favoured = favoured;
     for (i, event) in events.chunks(12).take(n).enumerate() {
         let answer = crate::step(settings, state, cache, clock, favoured, event);
         lines::write(&mut out[12 * i..12 * i + 12], answer.verdict);

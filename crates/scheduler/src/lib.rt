@@ -66,13 +66,9 @@ pub fn step(
     ensures priced { cache.new.budgets ≡ cache.old.budgets }
     ensures loan { SameLoan state.old state.new }
 {
-    match admission::admit(
-        settings,
-        state.exists,
-        state.ready,
-        clock,
-        event::decode(event),
-    ) {
+    let decoded = event::decode(event);
+    let admitted = admission::admit(settings, state.exists, state.ready, clock, decoded);
+    match admitted {
         Err(refusal) => Stepped {
             verdict: Err(refusal),
             clock,

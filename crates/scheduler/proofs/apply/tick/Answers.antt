@@ -1,6 +1,5 @@
-use mathlib.Core.Path.{◌≡◌, refl, sym, ap, subst, transport, ◌∙◌}
+use mathlib.Core.Path.{sym, ap, subst, transport, ◌∙◌}
 use Prim.Native.Nat.{ℕ}
-use mathlib.Core.List.{List}
 use lib.ListN.{take}
 use Rattle.sheet.specs.Settings.{need}
 use Rattle.model.specs.Arrays.{columns_in, with_slice_column, state_of}

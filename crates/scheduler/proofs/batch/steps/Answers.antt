@@ -4,8 +4,8 @@ use Prim.Native.Nat.{ℕ, ◌+◌, ◌-◌, ◌*◌}
 use native.Mathlib.Omega.{arith}
 use lib.ListN.{drop}
 use Rattle.std.proofs.Common.{rules}
-use Rattle.core.specs.Iterator.Adapters.{enumerate_steps, take_steps}
-use Rattle.core.specs.Slice.Iter.{chunks_steps}
+use Rattle.std.specs.Iterator.Adapters.{enumerate_steps, take_steps}
+use Rattle.std.specs.Slice.Iter.{chunks_steps}
 use Rattle.model.specs.Step.{Saved}
 use Rattle.model.specs.Run.{run, after}
 use Rattle.model.specs.Answers.{line_of, text_of}
