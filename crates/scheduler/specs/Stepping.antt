@@ -1,5 +1,5 @@
 -- The invariant of a run over the lent arrays, and what a step is held to.
-use Rattle.std.specs.Prelude.{◌≢◌, ◌≡◌, List, ℕ, length, Result, Err}
+use Rattle.std.specs.Prelude.{◌≢◌, ◌≡◌, List, ℕ, length, Result}
 use Rattle.refusals.specs.declared.Refusal.{Refusal}
 use Rattle.sheet.specs.declared.Settings.{Settings}
 use Rattle.model.specs.Answers.{line_of, answer_line}

@@ -6,7 +6,6 @@ use lib.ListN.{drop}
 use Rattle.std.proofs.Common.{rules}
 use Rattle.std.specs.Iterator.Adapters.{enumerate_steps, take_steps}
 use Rattle.std.specs.Slice.Iter.{chunks_steps}
-use Rattle.model.specs.Step.{Saved}
 use Rattle.model.specs.Run.{run, after}
 use Rattle.model.specs.Answers.{line_of, text_of}
 use Rattle.model.specs.Stream.{events_in, lines_of}
