@@ -3,8 +3,7 @@
 // kept for the next one, and only the end of the input makes it a cut event.
 #![tactic(auto)]
 
-ghost use Rattle.std.specs.Prelude.{◌≡◌, ◌+◌, ◌≤◌, ◌<◌, length, take, OnSome};
-ghost use Rattle.model.specs.Arrays.{SameLoan};
+ghost use Rattle.std.specs.Prelude.{◌≡◌, ◌+◌, ◌≤◌, ◌<◌, length, take, IfSome};
 
 use model::StateMut;
 use std::fs;
@@ -13,6 +12,15 @@ use std::rt::Files;
 
 // What one call reads and writes at most.
 const BUFFER: usize = 65536;
+
+// What the doors are lent, started from one sheet.
+#[derive(Drop)]
+struct Session<'a> {
+    settings: [u32; 7],
+    shares: [u32; 16],
+    clock: [u32; 5],
+    state: StateMut<'a>,
+}
 
 // The sheet's bytes at the start of the buffer, and how many there are: none where the file is missing or cannot be read.
 fn read_sheet(files: &impl Files, buffer: &mut [u8]) -> usize
@@ -27,7 +35,7 @@ fn read_sheet(files: &impl Files, buffer: &mut [u8]) -> usize
 // Reads once, behind the bytes that are there already, and answers how many there are then; nothing where the input has ended, or cannot be read.
 fn read_more(input: &mut impl Read, events: &mut [u8], kept: usize) -> Option<usize>
     requires { kept ≤ length events.old }
-    ensures { OnSome result (λ n. (kept < n) × (n ≤ length events.new)) }
+    ensures { IfSome result (λ n. (kept < n) × (n ≤ length events.new)) }
 {
     match input.read(&mut events[kept..]) {
         Ok(n) if 0 < n => Some(kept + n),
@@ -38,17 +46,19 @@ fn read_more(input: &mut impl Read, events: &mut [u8], kept: usize) -> Option<us
 // The events are answered, and their lines printed. False: they cannot be printed.
 fn answer(
     output: &mut impl Write,
-    settings: &[u32; 7],
-    shares: &[u32; 16],
-    clock: &mut [u32; 5],
-    state: &mut StateMut<'_>,
+    session: &mut Session<'_>,
     events: &[u8],
     out: &mut [u8],
-) -> bool
-    ensures { SameLoan state.old state.new }
-{
+) -> bool {
     let lines = events.len().div_ceil(12).min(out.len() / 12);
-    let _ = doors::batch::run(settings, shares, clock, state, events, out);
+    let _ = doors::batch::run(
+        &session.settings,
+        &session.shares,
+        &mut session.clock,
+        &mut session.state,
+        events,
+        out,
+    );
     output.write_all(&out[..12 * lines]).is_ok()
 }
 
@@ -57,35 +67,23 @@ fn answer(
 fn serve_once(
     input: &mut impl Read,
     output: &mut impl Write,
-    settings: &[u32; 7],
-    shares: &[u32; 16],
-    clock: &mut [u32; 5],
-    state: &mut StateMut<'_>,
+    session: &mut Session<'_>,
     events: &mut [u8],
     out: &mut [u8],
     kept: usize,
 ) -> Option<usize>
     requires { (kept < 12) × (12 ≤ length events.old) }
-    ensures kept { OnSome result (λ rest. rest < 12) }
-    ensures loan { SameLoan state.old state.new }
+    ensures { IfSome result (λ rest. rest < 12) }
 {
     match read_more(input, events, kept) {
         None => {
-            answer(output, settings, shares, clock, state, &events[..kept], out);
+            answer(output, session, &events[..kept], out);
             None
         }
         Some(n) => {
             let rest = n % 12;
             let whole = n - rest;
-            let printed = answer(
-                output,
-                settings,
-                shares,
-                clock,
-                state,
-                &events[..whole],
-                out,
-            );
+            let printed = answer(output, session, &events[..whole], out);
             events.copy_within(whole..n, 0);
             if printed { Some(rest) } else { None }
         }
@@ -96,10 +94,7 @@ fn serve_once(
 fn serve(
     input: &mut impl Read,
     output: &mut impl Write,
-    settings: &[u32; 7],
-    shares: &[u32; 16],
-    clock: &mut [u32; 5],
-    state: &mut StateMut<'_>,
+    session: &mut Session<'_>,
     events: &mut [u8],
     out: &mut [u8],
 )
@@ -107,9 +102,7 @@ fn serve(
 {
     let mut kept = 0;
     for _ in 0..u64::MAX {
-        match serve_once(
-            input, output, settings, shares, clock, state, events, out, kept,
-        ) {
+        match serve_once(input, output, session, events, out, kept) {
             Some(rest) => kept = rest,
             None => return,
         }
@@ -120,41 +113,44 @@ fn main(rt: HostRuntime) {
     // One record more than a sheet may have, so that a longer file is refused as it stands.
     let mut sheet = [0u8; 264];
     let n = read_sheet(&rt, &mut sheet);
-    // The state, and room for the largest history: 16 partitions and 400 ticks.
-    let mut settings = [0u32; 7];
-    let mut shares = [0u32; 16];
-    let mut clock = [0u32; 5];
+    let mut settings = [0; 7];
+    let mut shares = [0; 16];
+    let mut clock = [0; 5];
+    // The history has room for the largest: 16 partitions and 400 ticks.
     let mut state = StateMut {
-        used: &mut [0u32; 16],
-        exists: &mut [0u8; 64],
-        ready: &mut [0u8; 64],
-        partitions: &mut [0u8; 64],
-        priorities: &mut [0u8; 64],
-        masks: &mut [0u8; 64],
-        policies: &mut [0u8; 64],
-        slices: &mut [0u8; 64],
-        queue: &mut [0u8; 64],
-        history: &mut [0u32; 6400],
+        used: &mut [0; 16],
+        exists: &mut [0; 64],
+        ready: &mut [0; 64],
+        partitions: &mut [0; 64],
+        priorities: &mut [0; 64],
+        masks: &mut [0; 64],
+        policies: &mut [0; 64],
+        slices: &mut [0; 64],
+        queue: &mut [0; 64],
+        history: &mut [0; 6400],
     };
-    match doors::start::start(
+    let started = doors::start::start(
         &sheet[..n],
         &mut settings,
         &mut shares,
         &mut clock,
         &mut state,
-    ) {
-        Err(refusal) => {
-            let _ = rt.stdout().write_all(&lines::line(Err(refusal)));
-        }
-        Ok(()) => serve(
-            &mut rt.stdin(),
-            &mut rt.stdout(),
-            &settings,
-            &shares,
-            &mut clock,
-            &mut state,
-            &mut [0u8; BUFFER],
-            &mut [0u8; BUFFER],
-        ),
+    );
+    if let Err(refusal) = started {
+        let _ = rt.stdout().write_all(&lines::line(Err(refusal)));
+        return;
     }
+    let mut session = Session {
+        settings,
+        shares,
+        clock,
+        state,
+    };
+    serve(
+        &mut rt.stdin(),
+        &mut rt.stdout(),
+        &mut session,
+        &mut [0; BUFFER],
+        &mut [0; BUFFER],
+    );
 }
