@@ -43,14 +43,8 @@ fn running_fits(ready: &[u8; 64], masks: &[u8; 64], running: u32, core: u32) -> 
     requires { core ≤ 7 }
     ensures { result ≡ running_fits ready.now masks.now running core }
 {
-    if running == IDLE {
-        return true;
-    }
-    if 64 <= running {
-        return false;
-    }
     let at = running as usize;
-    (ready[at] == 1) & masks::allowed(masks[at], core)
+    running == IDLE || (running < 64 && ready[at] == 1 && masks::allowed(masks[at], core))
 }
 
 // Every flag is 0 or 1 and the state is sound, if its settings are within the limits and the history has room for its rows. The shortest
