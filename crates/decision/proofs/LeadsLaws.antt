@@ -20,9 +20,10 @@ use Rattle.sets.specs.Bits.{in_set, Put, TakenOut, Only, Marked, Lowest}
 use Rattle.sets.proofs.Laws as bits
 use Rattle.model.specs.State.{allows, may_run}
 use Rattle.model.specs.Step.{leaves, to_tail, to_head, requeued}
-use Rattle.decision.specs.Leads.{top_of, any_of, level_of, lead_in, raised_by, numbers, runnable}
+use Rattle.decision.specs.Leads.{top_of, any_of, level_of, lead_in, raised_by, tops_of, firsts_of, numbers, runnable}
 use Rattle.decision.specs.Keeping.{Right, RightAt, KeptIn, Stale, Left, Changed, Lined, Joins}
 use Rattle.decision.specs.declared.leads.Lead.{Lead}
+use Rattle.decision.proofs.LeadsArray.{tops_set, firsts_set, lead_at}
 use Rattle.decision.proofs.ListLeads.{lead_more, lead_stop, keep_same, lead_same, lead_left, level_left, lead_tail, level_tail, changed_any, changed_above, changed_level, changed_first, changed_other}
 
 -- ---- one partition
@@ -155,6 +156,16 @@ module _ (core : ℕ) (ps ns ms tops firsts : List ℕ) (set₀ t : ℕ) where
         at q b (no n) =
             right_other (numbers ns) (runnable core ps ms q (line ++ (t ∷ []))) tops firsts set' p x.top x.first set₀ q (λ e. n (sym e)) (others_in q b n)
             (unmoved line q (not_mine q n) (k.right q b))
+
+-- the same of the leads as they are kept
+pub joined : (core : ℕ) (ps ns ms : List ℕ) (leads : List Lead) (set₀ t : ℕ) → get_or ps t 0 < 16 → allows (get_or ms t 0) core ≡ true
+    → (set' : ℕ) → Put 16 set₀ (get_or ps t 0) set' → (x : Lead)
+    → x ≡ raised_by (get_or leads (get_or ps t 0) (record { top = 0; first = 0 })) (get_or ns t 0) t
+    → Joins core ps ns ms t (tops_of leads) (firsts_of leads) set₀ (tops_of (set leads (get_or ps t 0) x)) (firsts_of (set leads (get_or ps t 0) x)) set'
+joined core ps ns ms leads set₀ t low ok set' put x e =
+    rw (tops_set leads (get_or ps t 0) x, firsts_set leads (get_or ps t 0) x)
+    (join_raised core ps ns ms (tops_of leads) (firsts_of leads) set₀ t low ok set' put x
+    (e ∙ ap (λ (y : Lead). raised_by y (get_or ns t 0) t) (lead_at leads (get_or ps t 0))))
 
 -- ---- nobody is queued
 

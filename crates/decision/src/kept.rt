@@ -106,18 +106,20 @@ impl Cache {
 }
 
 // The favoured partition as a set: the one that the running thread works for, or nothing while idle.
+#[tactic(auto, using(crate::proofs::UpkeepLaws::favours_none, crate::proofs::UpkeepLaws::favours_one))]
 pub fn favoured_in(partitions: &[u8; 64], running: u32) -> u16
     requires { Works partitions.now running }
     ensures { Favoured (worked_for partitions.now running) result }
 {
-    if running == IDLE {
-        0
-    } else {
+    if running != IDLE {
         sets::only(partitions[running as usize])
+    } else {
+        0
     }
 }
 
 // The same of a running thread whose partition is known: that of a decision, which runs until the next event.
+#[tactic(auto, using(crate::proofs::UpkeepLaws::favours_none, crate::proofs::UpkeepLaws::favours_one))]
 pub fn favoured_after(partition: u8, running: u32) -> u16
     requires { running ≢ 255 → partition < 16 }
     ensures { Favoured (works_for running partition) result }

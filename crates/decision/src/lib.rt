@@ -24,6 +24,7 @@ pub struct Order {
 }
 
 // The mode table, first row that fits: from whose budget is above 0, who competes and who has budget.
+#[tactic(auto, using(crate::proofs::DecisionLaws::mode_idle, crate::proofs::DecisionLaws::mode_free, crate::proofs::DecisionLaws::mode_under, crate::proofs::DecisionLaws::mode_limit))]
 pub fn mode_in(sets: Sets) -> Mode
     ensures { result ≡ mode_by sets.paying sets.competing sets.solvent }
 {
@@ -59,6 +60,7 @@ pub fn order_in(mode: Mode, policy: u32) -> Order
 }
 
 // Those of a set that are best on has budget, where the order asks for it.
+#[tactic(auto, unfolding(crate::specs::Orders::asked), using(crate::proofs::NarrowingLaws::narrowed_none))]
 fn by_budget(order: Order, among: u16, solvent: u16) -> u16
     requires { among ≢ 0 }
     ensures { Narrowed (λ p q. asked order.budget (on_set solvent p q)) among result }
@@ -71,6 +73,7 @@ fn by_budget(order: Order, among: u16, solvent: u16) -> u16
 }
 
 // Those of a set that are best on top priority, where the order asks for it.
+#[tactic(auto, unfolding(crate::specs::Orders::asked), using(crate::proofs::NarrowingLaws::narrowed_none))]
 fn by_priority(order: Order, leads: &[Lead; 16], among: u16) -> u16
     requires { among ≢ 0 }
     ensures { Narrowed (λ p q. asked order.priority (on_priority (tops_of leads.now) p q)) among result }
@@ -93,6 +96,7 @@ fn level_of(leads: &[Lead; 16], order: Order, competing: u16, solvent: u16) -> u
 
 // The winner of those: the smallest fraction, and among all that have it, which are tied for best, the favoured partition, if it is one of them;
 // otherwise the lowest number. One that is alone wins as it is.
+#[tactic(auto, using(crate::proofs::NarrowingLaws::wins_alone))]
 fn winner_of(used: &[u32; 16], budgets: &[u32; 16], level: u16, favoured: u16) -> u8
     requires { level ≢ 0 }
     ensures { Wins used.now budgets.now level favoured result }

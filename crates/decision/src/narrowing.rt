@@ -101,6 +101,7 @@ fn best<V: Rank, F: Fn(u8) -> V>(among: u16, value: F) -> u16
 }
 
 // Those of a set that are in another one, if there are such; otherwise all are level.
+#[tactic(auto, using(crate::proofs::NarrowingLaws::preferred_none, crate::proofs::NarrowingLaws::preferred_some))]
 pub fn preferred(among: u16, set: u16) -> u16
     requires { among ≢ 0 }
     ensures { Narrowed (on_set set) among result }
