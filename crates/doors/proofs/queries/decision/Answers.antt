@@ -22,18 +22,13 @@ returns-in_err-opened c =
     let (r, e, q) = err_from_is_err_and c.from_residual.result c.from_residual.ensures.1 in
     ap line_of (e ∙ ap Err q) ∙ decision_no (given t) c.in_err-opened.field-0.0 (refused (given t) t.open.result c.in_err-opened.field-0.0 t.open.ensures c.in_err-opened.was)
 
-pub beside-beside-requires : goal.beside-beside-requires
-beside-beside-requires c =
-    let t = (goal.at.beside-beside-requires c).After-open in
-    fits (given t) t.open.result c.in_ok-opened.opened t.open.ensures c.in_ok-opened.was
-
 pub returns : goal.returns
 returns c =
     let t = (goal.at.returns c).After-open in
     let x = given t in
     let i = c.in_ok-opened.opened in
     let z = fits x t.open.result i t.open.ensures c.in_ok-opened.was in
-    let v = c.beside-beside.result.cache in
+    let v = c.beside-favoured.result.cache in
     decision_yes x (taken x t.open.result i t.open.ensures c.in_ok-opened.was) i (t.open.ensures.opened i c.in_ok-opened.was) (decided_of c.choose.result)
-    (decides i.settings x.used i.clock x.threads x.queue x.history z.0 z.1 v.budgets (tops_of v.leads) (firsts_of v.leads) v.sets c.beside-beside.result.favoured
-    c.beside-beside.ensures.held c.beside-beside.ensures.favours c.choose.result c.choose.ensures)
+    (decides i.settings x.used i.clock x.threads x.queue x.history z.0 z.1 v.budgets (tops_of v.leads) (firsts_of v.leads) v.sets c.beside-favoured.result.favoured
+    c.beside-favoured.ensures.held c.beside-favoured.ensures.favours c.choose.result c.choose.ensures)

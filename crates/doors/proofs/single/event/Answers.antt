@@ -29,11 +29,6 @@ returns-in_err-opened-clause-answered c =
     let (r, e, q) = err_from_is_err_and c.from_residual.result c.from_residual.ensures.1 in
     answered_as (ap line_of (e ∙ ap Err q)) (answered_no (given t) t.open.result c.in_err-opened.field-0.0 (opened t) c.in_err-opened.was c.args.event.now)
 
-pub beside-beside-requires : goal.beside-beside-requires
-beside-beside-requires c =
-    let a = c.args in
-    fits (lent_seen a.settings.now a.shares.now a.clock.now c.seen-seen.result) c.open.result c.in_ok-opened.opened c.open.ensures c.in_ok-opened.was
-
 pub step-stepped-requires : goal.step-stepped-requires
 step-stepped-requires c =
     let a = c.args in
