@@ -2,18 +2,12 @@
 use mathlib.Core.Path.{◌≡◌, refl, sym, ◌∙◌}
 use Prim.Native.Nat.{ℕ}
 use mathlib.Core.List.{List}
-use lib.ListN.{length, get_or, set, get_or-map}
-use Rattle.std.proofs.lemmas.List.{map-set, length-map}
+use lib.ListN.{get_or, set, get_or-map}
+use Rattle.std.proofs.lemmas.List.{map-set}
 use Rattle.decision.specs.Leads.{tops_of, firsts_of}
 use Rattle.decision.specs.Upkeep.{LeadsAlone}
 use Rattle.decision.specs.declared.leads.Lead.{Lead}
 use Rattle.decision.specs.declared.kept.Cache.{Cache}
-
-pub tops_length : (l : List Lead) → length (tops_of l) ≡ length l
-tops_length l = length-map l (λ x. x.top)
-
-pub firsts_length : (l : List Lead) → length (firsts_of l) ≡ length l
-firsts_length l = length-map l (λ x. x.first)
 
 pub tops_set : (l : List Lead) (p : ℕ) (x : Lead) → tops_of (set l p x) ≡ set (tops_of l) p x.top
 tops_set l p x = map-set (λ y. y.top) l p x
