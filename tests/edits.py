@@ -203,11 +203,17 @@ def module(file):
     return "" if Path(file).stem in ("lib", "main") else f"{Path(file).stem}::"
 
 
+def functions_of(crate):
+    """The functions of the crate in a folder, by the paths that the prover gives them: a type's own are where the type is, in whatever file."""
+    texts = {path: path.read_text() for path in crate.glob("src/*.rt")}
+    homes = {name: module(path) for path, text in texts.items() for name in re.findall(r"^(?:pub(?:\([^)]*\))? )?(?:struct|enum) (\w+)", text, re.M)}
+    found = {}
+    for path, text in texts.items():
+        for name, function in functions(text).items():
+            own = function.block and not function.of_trait
+            found[(homes[re.match(r"\w+", name)[0]] if own else module(path)) + name] = function
+    return found
+
+
 def beside(name, number):
     return f"{name}_faulty_{number}"
-
-
-def place_of(fault):
-    """The function whose proof must break."""
-    path, _, name = fault.breaks.rpartition("::")
-    return path, name

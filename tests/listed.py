@@ -6,7 +6,7 @@ Every public function has a fault there, and every door two, as it says.
 import re
 import sys
 
-from edits import ROOT, faults, functions, module
+from edits import ROOT, faults, functions_of
 
 DOORS = {("doors", "start::start"), ("doors", "single::event"), ("doors", "batch::run"), ("doors", "queries::decision"),
          ("doors", "queries::remaining"), ("sheet", "read_sheet"), ("sheet", "write_sheet")}
@@ -15,12 +15,10 @@ DOORS = {("doors", "start::start"), ("doors", "single::event"), ("doors", "batch
 def public_functions():
     """The public functions, as an edit names them, and those that a public type gives for a trait."""
     found = set()
-    for crate in {path.parts[-3] for path in ROOT.glob("crates/*/src/*.rt")}:
-        texts = {path: path.read_text() for path in (ROOT / "crates" / crate / "src").glob("*.rt")}
-        own = {name for text in texts.values() for name in re.findall(r"^(?:struct|enum|trait) (\w+)", text, re.M)}
-        for path, text in texts.items():
-            public = [f.name for f in functions(text).values() if f.public and not own & set(re.findall(r"\w+", f.block))]
-            found |= {(crate, module(path) + name) for name in public}
+    for crate in {path.parent.parent for path in ROOT.glob("crates/*/src/*.rt")}:
+        own = {name for path in crate.glob("src/*.rt") for name in re.findall(r"^(?:struct|enum|trait) (\w+)", path.read_text(), re.M)}
+        public = [path for path, f in functions_of(crate).items() if f.public and not own & set(re.findall(r"\w+", f.block))]
+        found |= {(crate.name, path) for path in public}
     return found
 
 

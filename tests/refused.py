@@ -20,7 +20,7 @@ import time
 from concurrent.futures import ThreadPoolExecutor
 from pathlib import Path
 
-from edits import ROOT, beside, faults, functions, module
+from edits import ROOT, beside, faults, functions, functions_of
 
 sys.path.insert(0, str(ROOT / "tools/must-break"))
 from edited import Edit, broken, prover  # noqa: E402
@@ -85,9 +85,8 @@ def names_of(crate, folder):
     assert status == 0, f"{crate}: {said[:2000]}"
     told = json.loads((folder / "names/names.json").read_text())
     told = {key.removeprefix(f"Rattle-{crate}-proofs.").removesuffix(".Lts").replace(".", "::"): told[key] for key in told}
-    for path in (folder / "src").glob("*.rt"):
-        for name in functions(path.read_text()):
-            assert module(path) + name in told, f"{crate}: the prover has another name for {module(path)}{name}"
+    for path in functions_of(folder):
+        assert path in told, f"{crate}: the prover has another name for {path}"
     return told
 
 
