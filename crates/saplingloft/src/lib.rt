@@ -194,10 +194,13 @@ pub extern "C" fn saplingloft_lent_read_sheet(
     ensures { SheetRead sheet.now settings.old shares.old result settings.new shares.new }
 {
     let reading = sheet::read_sheet(sheet);
-    if reading.outcome.is_ok() {
-        words::keep_settings(settings, shares, reading.settings);
+    match reading.outcome {
+        Ok(()) => {
+            words::keep_settings(settings, shares, reading.settings);
+            0
+        }
+        Err(refused) => u32::from(u8::from(refused)),
     }
-    u32::from(numbers::outcome_number(reading.outcome))
 }
 
 // Settings and shares as a sheet, at the start of the lent bytes. The answer is the refusal, or 0; nothing is written beside a refusal.
