@@ -14,6 +14,7 @@ use crate::{queue, tasks};
 use event::Event;
 use event::kinds::Action;
 use model::StateMut;
+use std::cmp::Ordering;
 
 // A thread's record, which stands in its place of the seven arrays.
 #[derive(Clone, Copy)]
@@ -93,9 +94,8 @@ fn join(
         × (queue_in queue.new result ≡ queue_from (take queued queue.old ++ (t ∷ []))) }
 {
     let at = t as usize;
-    let full = tasks::slice_for(policies[at]);
     ready[at] = 1;
-    slices[at] = full;
+    slices[at] = tasks::slice_for(policies[at]);
     queue::append(queue, queued, t)
 }
 
@@ -112,6 +112,7 @@ fn block(ready: &mut [u8; 64], queue: &mut [u8; 64], queued: u32, t: u8) -> u32
 
 // The thread has another priority. A ready thread that is raised goes to the tail of the queue, and one that is lowered to its head; one set to the
 // priority it has stays. A thread that is not ready only changes its number.
+#[tactic(auto, using(model::proofs::Ahead::requeued_raised, model::proofs::Ahead::requeued_lowered, model::proofs::Ahead::requeued_same, model::proofs::Ahead::requeued_unready))]
 fn set_priority(
     ready: &[u8; 64],
     priorities: &mut [u8; 64],
@@ -129,17 +130,14 @@ fn set_priority(
 {
     let at = t as usize;
     let old = priorities[at];
-    let on = ready[at];
     priorities[at] = priority;
-    if on != 1 {
+    if ready[at] != 1 {
         return;
     }
-    if old < priority {
-        queue::to_tail(queue, queued, t);
-        return;
-    }
-    if priority < old {
-        queue::to_head(queue, queued, t);
+    match priority.cmp(&old) {
+        Ordering::Greater => queue::to_tail(queue, queued, t),
+        Ordering::Less => queue::to_head(queue, queued, t),
+        Ordering::Equal => {}
     }
 }
 
