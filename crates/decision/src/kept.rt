@@ -1,16 +1,18 @@
 // What a run keeps beside the state, as a whole: made once, and the decision from it.
-ghost use Rattle.std.specs.Prelude.{◌≢◌, take, ◌<◌};
+ghost use Rattle.std.specs.Prelude.{◌≢◌, ◌≤◌, ◌<◌, get_or, take};
 ghost use Rattle.sheet.specs.Settings.{Limits};
-ghost use Rattle.decision.specs.Keeping.{KeptOf, LinedOf};
+ghost use Rattle.decision.specs.Keeping.{KeptOf, StaleOf, LeftOf, ChangedOf, LinedOf, JoinsOf};
 ghost use Rattle.decision.specs.Follow.{FollowedOf, FollowedPriorityOf, FollowedTurnOf};
 ghost use Rattle.decision.specs.Decides.{Favoured};
 ghost use Rattle.decision.specs.Upkeep.{HeldOf, works_for, worked_for, Works, DecidesWith, LeadsAlone};
 
-use crate::leads::{Lead, NOBODY, ReadyQueue};
+use crate::leads::{Lead, NOBODY, ReadyQueue, level_of, may_run, raise};
 use accounts::solvency;
 use event::kinds::Action;
 use model::{Decision, IDLE};
+use sets::Members;
 use sheet::Settings;
+use threads::masks;
 
 // Sets of partitions: whose budget is above 0, who competes, who has budget.
 #[derive(Clone, Copy)]
@@ -65,6 +67,102 @@ impl Cache {
             self.sets,
             favoured,
         )
+    }
+
+    // Thread t has joined the queue at its tail.
+    pub fn join(&mut self, queue: ReadyQueue<'_>, t: u8)
+        requires { (t < 64) × (queue.core ≤ 7) × (get_or queue.partitions.now t 0 < 16) }
+        ensures joined { JoinsOf queue.entry t self.old.leads self.old.sets.competing self.new.leads self.new.sets.competing }
+        ensures rest { LeadsAlone self.old self.new }
+    {
+        let at = t as usize;
+        if masks::allowed(queue.masks[at], queue.core) {
+            let p = queue.partitions[at];
+            let here = p as usize;
+            self.leads[here] = raise(self.leads[here], queue.priorities[at], t);
+            self.sets.competing = sets::put(self.sets.competing, p);
+        }
+    }
+
+    // All leads from the queue, in one pass.
+    pub fn build(&mut self, queue: ReadyQueue<'_>)
+        requires { LinedOf queue }
+        ensures kept { KeptOf queue.entry self.new.leads self.new.sets.competing }
+        ensures rest { LeadsAlone self.old self.new }
+    {
+        self.leads = [NOBODY; 16];
+        self.sets.competing = 0;
+        for t in queue.line() {
+            self.join(queue, *t);
+        }
+    }
+
+    // The leads of some partitions anew, each by a walk along the queue: document 01's nested search "over partitions and line entries". The outer
+    // loop goes over the partitions, the loop in it over the queue; it yields the lead by `break`, at the latest at the queue's end, and at once
+    // where a thread has the priority that none is above.
+    pub fn renew(&mut self, queue: ReadyQueue<'_>, stale: u16)
+        requires { LinedOf queue × StaleOf queue self.old.leads self.old.sets.competing stale }
+        ensures kept { KeptOf queue.entry self.new.leads self.new.sets.competing }
+        ensures rest { LeadsAlone self.old self.new }
+    {
+        for p in Members(stale) {
+            let here = p as usize;
+            let ceiling = self.leads[here].top;
+            let mut best = NOBODY;
+            let mut line = queue.line().iter();
+            let lead = loop {
+                let Some(t) = line.next() else {
+                    break best;
+                };
+                let at = *t as usize;
+                if may_run(queue.partitions[at], queue.masks[at], p, queue.core) {
+                    best = raise(best, queue.priorities[at], *t);
+                    if best.top == ceiling {
+                        break best;
+                    }
+                }
+            };
+            self.leads[here] = lead;
+            self.sets.competing = sets::mark(self.sets.competing, p, lead.top != 0);
+        }
+    }
+
+    // Thread t of partition p has left its place in the queue: it is no longer in it, or it went to its tail. Its partition is walked anew only if
+    // the thread was its first.
+    pub fn leave(&mut self, queue: ReadyQueue<'_>, p: u8, t: u8)
+        requires { (p < 16) × LinedOf queue × LeftOf queue self.old.leads self.old.sets.competing p t }
+        ensures kept { KeptOf queue.entry self.new.leads self.new.sets.competing }
+        ensures rest { LeadsAlone self.old self.new }
+    {
+        if self.leads[p as usize].first == t {
+            self.renew(queue, sets::only(p));
+        }
+    }
+
+    // The priority of the queued thread t has changed, and with it its place: raised it went to the tail, lowered to the head. Above its partition's
+    // top it leads. Otherwise the lead stays, for who came level with the first is behind it; only where the first thread itself was lowered the
+    // partition is walked anew.
+    pub fn change(&mut self, queue: ReadyQueue<'_>, t: u8)
+        requires { (t < 64) × LinedOf queue × ChangedOf queue self.old.leads self.old.sets.competing t }
+        ensures kept { KeptOf queue.entry self.new.leads self.new.sets.competing }
+        ensures rest { LeadsAlone self.old self.new }
+    {
+        let at = t as usize;
+        if !masks::allowed(queue.masks[at], queue.core) {
+            return;
+        }
+        let p = queue.partitions[at];
+        let here = p as usize;
+        let level = level_of(queue.priorities[at]);
+        let lead = self.leads[here];
+        if lead.top < level {
+            self.leads[here] = Lead {
+                top: level,
+                first: t,
+            };
+        } else if lead.first == t && lead.top != level {
+            self.renew(queue, sets::only(p));
+        }
     }
 
     // After a tick whose running thread, where its slice ended, went to the tail of the queue.
