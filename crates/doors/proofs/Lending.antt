@@ -2,7 +2,6 @@
 use mathlib.Core.Logic.{◌≢◌}
 use mathlib.Core.Path.{◌≡◌, refl, sym, ap, subst, ◌∙◌}
 use Prim.Native.Nat.{ℕ, ◌+◌, ◌*◌, ◌/◌, min}
-use native.Mathlib.Omega.{arith}
 use Rattle.std.specs.Int.{div_ceil}
 use mathlib.Core.Bool.{false}
 use mathlib.Core.List.{List, ◌++◌}
@@ -30,10 +29,6 @@ use Rattle.scheduler.proofs.SchedulerLaws.{taken_arrays}
 use Rattle.doors.specs.Doors.{Sizes, Answered, Ran}
 use Rattle.doors.specs.Inner.{Room, OpenedFrom, opened_from}
 use Rattle.doors.specs.declared.opening.Opened.{Opened}
-
--- how many records n bytes are, the last of which may be cut
-pub records : (n : ℕ) → div_ceil n 12 ≡ (n + 11) / 12
-records n = omega arith
 
 -- no refusal has the number 0
 pub not_zero : (r : Refusal) → number_of r ≢ 0
@@ -147,11 +142,11 @@ module _ (x : Lent) where
       sound_after = taken_arrays stepped.whole
 
       -- the event was accepted, and the clock is stored
-      pub answered_yes : (d : Decision) → w ≡ Ok d → Answered x b (line_of (Ok d)) (left (words_of k'))
-      answered_yes d g = record {
+      pub answered_yes : (d : Decision) → w ≡ Ok d → (k : List ℕ) → k ≡ words_of k' → Answered x b (line_of (Ok d)) (left k)
+      answered_yes d g k is = record {
         line = ap line_of (sym g) ∙ line;
-        after = after_it;
-        taken = λ _. sound_after;
+        after = ap (λ (n : List ℕ). saved_in (left n)) is ∙ after_it;
+        taken = λ _. ap (λ (n : List ℕ). refused_in (left n)) is ∙ sound_after;
         still = λ n. absurd (n (sym (ap (λ (l : Line). l.refusal) line) ∙ ap (λ (v : Result Decision Refusal). (line_of v).refusal) g));
         sizes = lengths o f;
       }
@@ -177,23 +172,23 @@ module _ (x : Lent) where
 
     -- ---- the run door
 
-    module _ (events lines lines' : List ℕ) (n : ℕ) (g : n ≡ min (event_count events) (length lines / 12)) where
-      pub ran_yes : saved (state_of i.settings u' k' ts' q') h' ≡ after (before i) (events_in events n)
-          → lines' ≡ lines_of (run (before i) (events_in events n)) ++ drop (12 * n) lines
-          → refused_arrays i.settings u' k' ts' q' h' ≡ 0
-          → Ran x events lines 0 (left (words_of k')) lines'
-      unfolding after_run lines_after taken_by
-      ran_yes a l t =
-          let a' = subst (λ (j : Opened). saved (state_of j.settings u' k' ts' q') h' ≡ after (before j) (events_in events n)) is_read a in
-          let l' = subst (λ (j : Opened). lines' ≡ lines_of (run (before j) (events_in events n)) ++ drop (12 * n) lines) is_read l in
-          record {
-            refusal = sym fine;
-            after = rw (fine, ← g) a';
-            written = rw (fine, ← g) l';
-            taken = λ _. subst (λ (j : Opened). refused_arrays j.settings u' k' ts' q' h' ≡ 0) is_read t;
-            still = λ j. absurd (j fine);
-            sizes = lengths o f;
-          }
+    pub ran_yes : (events lines lines' : List ℕ) (n : ℕ) → saved (state_of i.settings u' k' ts' q') h' ≡ after (before i) (events_in events n)
+        → lines' ≡ lines_of (run (before i) (events_in events n)) ++ drop (12 * n) lines
+        → refused_arrays i.settings u' k' ts' q' h' ≡ 0
+        → n ≡ min (event_count events) (length lines / 12)
+        → (k : List ℕ) → k ≡ words_of k' → Ran x events lines 0 (left k) lines'
+    unfolding after_run lines_after taken_by
+    ran_yes events lines lines' n a l t g k is =
+        let a' = subst (λ (j : Opened). saved (state_of j.settings u' k' ts' q') h' ≡ after (before j) (events_in events n)) is_read a in
+        let l' = subst (λ (j : Opened). lines' ≡ lines_of (run (before j) (events_in events n)) ++ drop (12 * n) lines) is_read l in
+        record {
+          refusal = sym fine;
+          after = rw (fine, ← g) (ap (λ (w : List ℕ). saved_in (left w)) is ∙ a');
+          written = rw (fine, ← g) l';
+          taken = λ _. ap (λ (w : List ℕ). refused_in (left w)) is ∙ subst (λ (j : Opened). refused_arrays j.settings u' k' ts' q' h' ≡ 0) is_read t;
+          still = λ j. absurd (j fine);
+          sizes = lengths o f;
+        }
 
 -- the same answer, told otherwise
 pub answered_as : {x : Lent} {b : List ℕ} {m n : Line} {y : Lent} → m ≡ n → Answered x b n y → Answered x b m y

@@ -1,15 +1,12 @@
-use mathlib.Core.Path.{◌≡◌, sym, ap, ◌∙◌}
-use Prim.Native.Nat.{ℕ, ◌/◌, min}
+use mathlib.Core.Path.{ap, ◌∙◌}
 use native.Mathlib.Omega.{arith}
-use lib.ListN.{length}
 use Rattle.std.proofs.lemmas.Result.{err_from_is_err_and}
 use Rattle.refusals.specs.Refusals.{number_of, outcome_of}
 use Rattle.model.specs.Arrays.{columns_in}
 use Rattle.model.specs.Lent.{Lent}
-use Rattle.model.specs.Stream.{event_count}
 use Rattle.doors.specs.Doors.{lent_in}
 use Rattle.doors.specs.Inner.{OpenedFrom}
-use Rattle.doors.proofs.Lending.{ran_as, ran_no, ran_yes, records}
+use Rattle.doors.proofs.Lending.{ran_as, ran_no, ran_yes}
 use Rattle.doors.proofs.Seeing.{opened_in, whole_in}
 use Rattle.doors.proofs.batch.run.Goals as goal
 use Rattle.doors.proofs.batch.run.Goals.{After-open}
@@ -29,8 +26,7 @@ returns-in_err-opened-clause-ran c =
 
 pub steps-after-requires : goal.steps-after-requires
 steps-after-requires c =
-    let a = c.args in
-    let room : c.min-records.result ≡ min (event_count a.events.now) (length a.out.now / 12) = c.min-records.ensures ∙ ap (λ (n : ℕ). min n (length a.out.now / 12)) (c.div_ceil.ensures ∙ records (length a.events.now)) in (
+    let a = c.args in (
       whole_in a.state.now c.seen-seen.result c.seen-seen.ensures a.settings.now a.shares.now a.clock.now c.open.result c.open.ensures
           c.in_ok-opened.opened c.in_ok-opened.was c.beside-beside.result c.beside-beside.ensures,
       omega arith,
@@ -43,7 +39,5 @@ returns-clause-ran c =
     let a = c.args in
     let s = c.steps-after in
     let y = s.new.state in
-    let room : c.min-records.result ≡ min (event_count a.events.now) (length a.out.now / 12) = c.min-records.ensures ∙ ap (λ (n : ℕ). min n (length a.out.now / 12)) (c.div_ceil.ensures ∙ records (length a.events.now)) in
-    rw c.into.ensures
-    (ran_yes (given t) t.open.result c.in_ok-opened.opened (opened t) c.in_ok-opened.was y.used.now s.result (columns_in y) y.queue.now y.history.now
-    a.events.now a.out.now s.new.out c.min-records.result room s.ensures.after s.ensures.lines s.ensures.sound)
+    ran_yes (given t) t.open.result c.in_ok-opened.opened (opened t) c.in_ok-opened.was y.used.now s.result (columns_in y) y.queue.now y.history.now
+    a.events.now a.out.now s.new.out _ s.ensures.after s.ensures.lines s.ensures.sound (omega arith) c.into.result c.into.ensures

@@ -52,6 +52,5 @@ returns-clause-answered c =
     let s = c.step-stepped in
     let y = s.new.state in
     let v = s.new.cache in
-    rw c.into.ensures
-    (answered_yes (given t) t.open.result c.in_ok-opened.opened (opened t) c.in_ok-opened.was y.used.now s.result.clock (columns_in y) y.queue.now y.history.now
-    c.args.event.now s.result.verdict v.budgets (tops_of v.leads) (firsts_of v.leads) v.sets s.result.favoured s.ensures.answered s.ensures.still c.in_ok-decision.decision c.in_ok-decision.was)
+    answered_yes (given t) t.open.result c.in_ok-opened.opened (opened t) c.in_ok-opened.was y.used.now s.result.clock (columns_in y) y.queue.now y.history.now
+    c.args.event.now s.result.verdict v.budgets (tops_of v.leads) (firsts_of v.leads) v.sets s.result.favoured s.ensures.answered s.ensures.still c.in_ok-decision.decision c.in_ok-decision.was c.into.result c.into.ensures
