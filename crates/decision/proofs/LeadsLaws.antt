@@ -11,7 +11,8 @@ use Rattle.std.proofs.lemmas.List.{get_or-take, length-append, length-take}
 use lib.Dec.{eqb, ltb}
 use native.Mathlib.Omega.{arith}
 use native.Mathlib.Decide.{ℕ_discrete}
-use borrow.Author.Tests.{eq-eqb, ne_eqb, eqb-true, eqb-false, not-true}
+use borrow.Author.Tests.{eq-eqb, ne_eqb, eqb-true, eqb-false, not-true, lt-ltb, le-ltb}
+use Rattle.std.proofs.lemmas.List.{set-get_or}
 use Rattle.lists.specs.Lists.{any, keep, first, member, cons_if}
 use Rattle.lists.proofs.Tests.{clash, both}
 use Rattle.lists.proofs.All.{member_keep, keep_append, keep_both, without_none}
@@ -23,7 +24,7 @@ use Rattle.model.specs.Step.{leaves, to_tail, to_head, requeued}
 use Rattle.decision.specs.Leads.{top_of, any_of, level_of, lead_in, raised_by, tops_of, firsts_of, numbers, runnable}
 use Rattle.decision.specs.Keeping.{Right, RightAt, KeptIn, Stale, Left, Changed, Lined, Joins}
 use Rattle.decision.specs.declared.leads.Lead.{Lead}
-use Rattle.decision.proofs.LeadsArray.{tops_set, firsts_set, lead_at}
+use Rattle.decision.proofs.LeadsArray.{tops_set, firsts_set, lead_at, top_at}
 use Rattle.decision.proofs.ListLeads.{lead_more, lead_stop, keep_same, lead_same, lead_left, level_left, lead_tail, level_tail, changed_any, changed_above, changed_level, changed_first, changed_other}
 
 -- ---- one partition
@@ -166,6 +167,37 @@ joined core ps ns ms leads set₀ t low ok set' put x e =
     rw (tops_set leads (get_or ps t 0) x, firsts_set leads (get_or ps t 0) x)
     (join_raised core ps ns ms (tops_of leads) (firsts_of leads) set₀ t low ok set' put x
     (e ∙ ap (λ (y : Lead). raised_by y (get_or ns t 0) t) (lead_at leads (get_or ps t 0))))
+
+-- where the thread leads, and where it does not
+pub leads_now : (old : Lead) (priority t : ℕ) → old.top < priority + 1 → record { top = priority + 1; first = t } ≡ raised_by old priority t
+unfolding raised_by
+leads_now old priority t h = rw (lt-ltb old.top (priority + 1) h)
+
+leads_still : (old : Lead) (priority t : ℕ) → priority + 1 ≤ old.top → old ≡ raised_by old priority t
+unfolding raised_by
+leads_still old priority t h = rw (le-ltb old.top (priority + 1) h)
+
+-- where it does not, its partition competes already
+pub joined_still : (core : ℕ) (ps ns ms : List ℕ) (leads : List Lead) (set₀ t : ℕ) → get_or ps t 0 < 16 → allows (get_or ms t 0) core ≡ true
+    → get_or ns t 0 + 1 ≤ (get_or leads (get_or ps t 0) (record { top = 0; first = 0 })).top
+    → Joins core ps ns ms t (tops_of leads) (firsts_of leads) set₀ (tops_of leads) (firsts_of leads) set₀
+joined_still core ps ns ms leads set₀ t low ok below line k =
+    rw (set-get_or leads p d) at (joined core ps ns ms leads set₀ t low ok set₀ put (get_or leads p d) (leads_still (get_or leads p d) (get_or ns t 0) t below) line k)
+  where
+    p : ℕ
+    p = get_or ps t 0
+    d : Lead
+    d = record { top = 0; first = 0 }
+    r : RightAt core ps ns ms line (tops_of leads) (firsts_of leads) set₀ (get_or ps t 0)
+    r = k.right (get_or ps t 0) low
+    some : in_set set₀ p ≡ true
+    some = r.competes ∙ sym (level_any (numbers ns) (runnable core ps ms p line)) ∙ ap not (ne_eqb (level_of (numbers ns) (runnable core ps ms p line)) 0 (λ z. let w : ⊥ = omega (arith, below, z, r.top, top_at leads p) in absurd w))
+    put : Put 16 set₀ p set₀
+    put i b = at (eqb i p) refl
+      where
+        at : (z : Bool) → eqb i p ≡ z → in_set set₀ i ≡ (in_set set₀ i || z)
+        at true e = rw (eqb-true i p e, some)
+        at false e = sym (or-false (in_set set₀ i))
 
 -- ---- nobody is queued
 

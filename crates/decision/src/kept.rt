@@ -79,8 +79,11 @@ impl Cache {
         if masks::allowed(queue.masks[at], queue.core) {
             let p = queue.partitions[at];
             let here = p as usize;
-            self.leads[here] = raise(self.leads[here], queue.priorities[at], t);
-            self.sets.competing = sets::put(self.sets.competing, p);
+            let top = level_of(queue.priorities[at]);
+            if self.leads[here].top < top {
+                self.leads[here] = Lead { top, first: t };
+                self.sets.competing = sets::put(self.sets.competing, p);
+            }
         }
     }
 
