@@ -85,8 +85,6 @@ def names_of(crate, folder):
     assert status == 0, f"{crate}: {said[:2000]}"
     told = json.loads((folder / "names/names.json").read_text())
     told = {key.removeprefix(f"Rattle-{crate}-proofs.").removesuffix(".Lts").replace(".", "::"): told[key] for key in told}
-    for path in functions_of(folder):
-        assert path in told, f"{crate}: the prover has another name for {path}"
     return told
 
 
@@ -107,7 +105,7 @@ def other_names(right, faulty):
 
 def cite(crate, fault, place, right, faulty, folder):
     """Has the proof of a faulty function name its goals and steps; gives the present name of the goal that must be open."""
-    other = other_names(right[fault.breaks], faulty[place])
+    other = other_names(right[fault.breaks], faulty[place]) if place in faulty else {}
     here, there = (".".join(["Rattle", crate, "proofs", *path.split("::")]) for path in (fault.breaks, place))
     for file in (folder / "proofs" / place.replace("::", "/")).glob("*.antt"):
         text = re.sub(rf"{re.escape(here)}(?=[.\s;]|$)", there, file.read_text())
@@ -148,16 +146,20 @@ def in_code(crate, tried):
             folder = Path(at) / str(number)
             places = put(crate, some, folder)
             names = names_of(crate, folder)
-            right = right or names  # the first copy has every right function
-            goals = [cite(crate, fault, place, right, names, folder) for fault, place in zip(some, places)]
+            if not right:
+                right = names  # the first copy has every right function
+                for path in functions_of(ROOT / "crates" / crate):
+                    assert path in right, f"{crate}: the prover has another name for {path}"
             if not some:
                 continue
+            goals = [cite(crate, fault, place, right, names, folder) for fault, place in zip(some, places)]
             flags = [word for place in places for word in ("--only", place)]
             said, _ = prover.check(folder, crate, prover.USES[crate], *flags, work=prover.kept([crate], folder / "kept"))
             log += said
             found = said_of(said, crate)
             for fault, place, goal in zip(some, places, goals):
-                whys[fault.edit, fault.label] = wrong(found.get(place, []), fault.breaks, goal)
+                why = wrong(found.get(place, []), fault.breaks, goal) if place in names else f"{fault.breaks} has no proof for another reason"
+                whys[fault.edit, fault.label] = why
     keep(crate, log)
     return [whys[fault.edit, fault.label] for fault in tried]
 
