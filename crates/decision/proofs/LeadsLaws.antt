@@ -2,12 +2,12 @@
 -- changed.
 use mathlib.Core.Logic.{◌≢◌}
 use mathlib.Core.Path.{◌≡◌, refl, sym, ap, ap₂, subst, ◌∙◌}
-use Prim.Native.Nat.{ℕ, zero, suc, ◌+◌, ◌≤◌, ◌<◌}
+use Prim.Native.Nat.{ℕ, ◌+◌, ◌≤◌, ◌<◌}
 use mathlib.Core.Bool.{Bool, true, false, not, cond, ◌&&◌, ◌||◌, and-true, and-false, or-true, or-false}
 use mathlib.Core.List.{List, [], ◌∷◌, ◌++◌, append-nil}
 use lib.ListN.{length, get_or, set, take, replicate, length-set}
 use lib.Seq.{get_or-set_same, get_or-set_other, get_or-append_seam}
-use Rattle.std.proofs.lemmas.List.{get_or-take, length-append, length-take}
+use Rattle.std.proofs.lemmas.List.{get_or-take, get_or-replicate, length-append, length-replicate, length-take}
 use lib.Dec.{eqb, ltb}
 use native.Mathlib.Omega.{arith}
 use native.Mathlib.Decide.{ℕ_discrete}
@@ -186,12 +186,16 @@ joined_still core ps ns ms leads set₀ t low ok below line k =
   where
     p : ℕ
     p = get_or ps t 0
+
     d : Lead
     d = record { top = 0; first = 0 }
+
     r : RightAt core ps ns ms line (tops_of leads) (firsts_of leads) set₀ (get_or ps t 0)
     r = k.right (get_or ps t 0) low
+
     some : in_set set₀ p ≡ true
     some = r.competes ∙ sym (level_any (numbers ns) (runnable core ps ms p line)) ∙ ap not (ne_eqb (level_of (numbers ns) (runnable core ps ms p line)) 0 (λ z. let w : ⊥ = omega (arith, below, z, r.top, top_at leads p) in absurd w))
+
     put : Put 16 set₀ p set₀
     put i b = at (eqb i p) refl
       where
@@ -201,21 +205,12 @@ joined_still core ps ns ms leads set₀ t low ok below line k =
 
 -- ---- nobody is queued
 
-zeros_at : (n p v : ℕ) → p < n → get_or (replicate n v) p 0 ≡ v
-zeros_at zero p v h = let w : ⊥ = omega arith in absurd w
-zeros_at (suc n) zero v h = refl
-zeros_at (suc n) (suc p) v h = zeros_at n p v (omega arith)
-
-length_same : (n v : ℕ) → length (replicate n v) ≡ n
-length_same zero v = refl
-length_same (suc n) v = ap suc (length_same n v)
-
 pub kept_none : (core : ℕ) (ps ns ms : List ℕ) → KeptIn core ps ns ms [] (replicate 16 0) (replicate 16 255) 0
 unfolding runnable keep level_of any first
 kept_none core ps ns ms = record {
-  wide = length_same 16 0;
-  long = length_same 16 255;
-  right = λ p b. record { top = zeros_at 16 p 0 b; thread = zeros_at 16 p 255 b; competes = bits.none p };
+  wide = length-replicate {A = ℕ} 16 0;
+  long = length-replicate {A = ℕ} 16 255;
+  right = λ p b. record { top = get_or-replicate {A = ℕ} 16 p 0 0 b; thread = get_or-replicate {A = ℕ} 16 p 255 0 b; competes = bits.none p };
 }
 
 -- ---- a partition is walked anew
@@ -244,11 +239,7 @@ module _ (core : ℕ) (ps ns ms line tops firsts : List ℕ) (set₀ left : ℕ)
           ∙ ap (λ (y : Lead). not (eqb y.top 0)) e ∙ level_any (numbers ns) (runnable core ps ms p line)
 
       left_of_law : (q : ℕ) → q < 16 → q ≢ p → in_set next q ≡ in_set left q
-      left_of_law q b n = t q b ∙ ap (λ (z : Bool). in_set left q && not z) (ne_eqb q p n) ∙ and_yes (in_set left q)
-        where
-          and_yes : (z : Bool) → (z && true) ≡ z
-          and_yes true = refl
-          and_yes false = refl
+      left_of_law q b n = t q b ∙ ap (λ (z : Bool). in_set left q && not z) (ne_eqb q p n) ∙ and-true (in_set left q)
 
       at : (q : ℕ) → q < 16 → in_set next q ≡ false → Dec (q ≡ p) → RightAt core ps ns ms line (set tops p x.top) (set firsts p x.first) set' q
       at q b f (yes w) =
