@@ -104,7 +104,7 @@ POINTS = {
     4: [("a conversion by a function", lambda r: lines(
         r, r"fn (number|mode_number|outcome_number|verdict_numbers|packed|form_of|stamp_of|word|wide|settings_in|keep_settings|clock_in|keep|percents|amounts|flag_in|line|level_of)\b")),
         ("copied field by field, or into a local of a field's name", copied),
-        ("a method of the library called as a function", lambda r: lines(r, r"\b(wrapping_\w+|u16::\w+)\("))],
+        ("a method of the library called as a function", lambda r: lines(r, r"(?<![.\w])(std::num::)?(wrapping_\w+|u16::trailing_zeros)\("))],
     5: [("more than seven parameters", many), ("a fact in three contracts or more", facts)],
     6: [("arrays beside each other, or an array with a length", together)],
     7: [("a match on which step to run", lambda r: lines(r, r"match (action|event\.action|kind)\b"))],
