@@ -7,6 +7,7 @@ use units::{Cycles, Percent, Ticks};
 
 // The flag that tells whether E is stated, in a lent word: a byte, and the three others, which are reserved, are 0. A word with another one is not
 // cut: 255, which is outside the limits as it is.
+#[tactic(auto, unfolding(model::specs::Lent::flag_from))]
 fn flag_in(word: u32) -> u8
     ensures { result ≡ flag_from word }
 {
