@@ -45,9 +45,7 @@ fn sized(
     ensures queue { length queue.now ≡ 64 }
 {}
 
-// Refused are, in this order: settings outside their limits (8), a history too short (7), a state not sound (8). Put into each door, as `beside` is,
-// so that what they answer is not copied.
-#[inline(always)]
+// Refused are, in this order: settings outside their limits (8), a history too short (7), a state not sound (8).
 pub fn open(
     settings: &[u32; 7],
     shares: &[u32; 16],
@@ -75,7 +73,6 @@ pub fn open(
 
 impl Opened {
     // What is kept beside the state is made.
-    #[inline(always)]
     pub fn beside(&self, state: StateRef<'_>) -> Beside
         requires { Room self.now.settings state.used.now (columns_seen state) state.queue.now × (refused_arrays self.now.settings state.used.now self.now.clock (columns_seen state) state.queue.now state.history.now ≡ 0) }
         ensures { Begins self.now.settings self.now.clock state.entry result }
