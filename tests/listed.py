@@ -6,20 +6,19 @@ Every public function has a fault there, and every door two, as it says.
 import re
 import sys
 
-from edits import ROOT, faults
-
+from edits import ROOT, faults, functions_of
 
 DOORS = {("doors", "start::start"), ("doors", "single::event"), ("doors", "batch::run"), ("doors", "queries::decision"),
          ("doors", "queries::remaining"), ("sheet", "read_sheet"), ("sheet", "write_sheet")}
-DOES_NOTHING = {("doors", "words::sized")}
 
 
-def functions():
-    """The public functions, as an edit names them."""
+def public_functions():
+    """The public functions, as an edit names them, and those that a public type gives for a trait."""
     found = set()
-    for path in ROOT.glob("crates/*/src/*.rt"):
-        module = "" if path.stem in ("lib", "main") else f"{path.stem}::"
-        found |= {(path.parts[-3], module + name) for name in re.findall(r'^pub (?:extern "C" )?fn (\w+)', path.read_text(), re.M)}
+    for crate in {path.parent.parent for path in ROOT.glob("crates/*/src/*.rt")}:
+        own = {name for path in crate.glob("src/*.rt") for name in re.findall(r"^(?:struct|enum|trait) (\w+)", path.read_text(), re.M)}
+        public = [path for path, f in functions_of(crate).items() if f.public and not own & set(re.findall(r"\w+", f.block))]
+        found |= {(crate.name, path) for path in public}
     return found
 
 
@@ -27,7 +26,7 @@ def in_code(text):
     """The lists of a crate's faults: `label` and the function."""
     return {(crate, label, function)
             for crate, body in re.findall(r"^- `(\w+)`: (.*(?:\n  .*)*)", text, re.M)
-            for label, function in re.findall(r"`(\w+)`\s+in\s+([\w:]+)", body)}
+            for label, function in re.findall(r"`(\w+)`\s+in\s+([\w:+]+)", body)}
 
 
 def of_statements(text):
@@ -49,9 +48,9 @@ def main():
     for one in sorted(there ^ listed):
         print(f"listed: {' '.join(one)} is {'not listed' if one in there else 'listed, and not there'}")
     broken = [(f.crate, f.breaks) for f in faults()]
-    public = functions()
-    assert DOORS <= public and DOES_NOTHING <= public
-    few = sorted(one for one in public - DOES_NOTHING if broken.count(one) < (2 if one in DOORS else 1))
+    public = public_functions()
+    assert DOORS <= public
+    few = sorted(one for one in public if broken.count(one) < (2 if one in DOORS else 1))
     for crate, name in few:
         print(f"listed: {crate} {name} has too few faults")
     print(f"listed: {len(there)} faults that must be refused; {len(public)} public functions")

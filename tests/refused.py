@@ -5,10 +5,10 @@
 
 The prover refuses an edit for any error at all; this asks for an error in the proof that the edit names, at the goal that it names or at the first
 one there, and that it is about a fact. That a name or a step of the proof is gone, or that something else is not proved, shows nothing. Each fault is
-alone: in code the faulty function is checked beside the right one, with a copy of its proof files (edits.py says how), and a statement with all that
-uses it is a copy of its own (tools/must-break/edited.py). In the faulty function a goal or a step may have another name than in the right one, since
-a name tells what a condition asks: the copy of the proof cites it by that. Where a function has no proof file, or a goal has no answer there, the
-prover's own line has to say that it finds no proof of what the function ensures, or of what a callee requires.
+alone: in code the faulty function is checked beside the right one, or in its place, with a copy of its proof files (edits.py says how), and a
+statement with all that uses it is a copy of its own (tools/must-break/edited.py). In the faulty function a goal or a step may have another name than
+in the right one, since a name tells what a condition asks: the copy of the proof cites it by that. Where a function has no proof file, or a goal has no
+answer there, the prover's own line has to say that it finds no proof of what the function ensures, or of what a callee requires.
 """
 import json
 import os
@@ -20,7 +20,7 @@ import time
 from concurrent.futures import ThreadPoolExecutor
 from pathlib import Path
 
-from edits import ROOT, beside, faults, module, place_of, renamed
+from edits import ROOT, beside, faults, functions, functions_of
 
 sys.path.insert(0, str(ROOT / "tools/must-break"))
 from edited import Edit, broken, prover  # noqa: E402
@@ -36,17 +36,46 @@ WORD = re.compile(r"[\w'₀-₉]+(?:[-+][\w'₀-₉]+)*")
 
 
 def put_beside(crate, tried, folder):
-    """A copy of a crate with each fault's functions beside the right ones, and with copies of the proof that must break."""
+    """A copy of a crate with each fault's functions beside the right ones, and with copies of the proofs that must break; gives where those are."""
     prover.copy(crate, folder)
+    places = []
     for number, fault in enumerate(tried):
-        for file, name, text in fault.functions():
+        path, _, name = fault.breaks.rpartition("::")
+        for file, _, faulty in fault.functions():
             with open(folder / file, "a") as source:
-                source.write("\n" + renamed(text, name, number))
-            if module(file) + name != fault.breaks:
-                continue
-            proofs = folder / "proofs" / module(file).replace("::", "/") / name
-            if proofs.is_dir():
-                shutil.copytree(proofs, proofs.with_name(beside(name, number)))
+                source.write(faulty.beside(number))
+        proofs = folder / "proofs" / path.replace("::", "/") / name
+        if proofs.is_dir():
+            shutil.copytree(proofs, proofs.with_name(beside(name, number)))
+        places.append(f"{path}::{beside(name, number)}".removeprefix("::"))
+    return places
+
+
+def put_in_place(crate, tried, folder):
+    """A copy of a crate with each fault's functions in the place of the right ones; gives where the proofs are that must break."""
+    prover.copy(crate, folder)
+    for fault in tried:
+        for file, right, faulty in fault.functions():
+            text = (folder / file).read_text()
+            (folder / file).write_text(functions(text)[right.name].put(text, faulty.text))
+    return [fault.breaks for fault in tried]
+
+
+def copies(tried):
+    """The faults as one copy of a crate can have them: those that stand beside, and of the others no two in one function."""
+    found = [(put_beside, [])]
+    for fault in tried:
+        names = {(file, right.name) for file, right, _ in fault.functions()}
+        if not any(right.of_trait for _, right, _ in fault.functions()):
+            found[0][1].append(fault)
+            continue
+        for put, there in found[1:]:
+            if not names & {(file, right.name) for other in there for file, right, _ in other.functions()}:
+                there.append(fault)
+                break
+        else:
+            found.append((put_in_place, [fault]))
+    return found
 
 
 def names_of(crate, folder):
@@ -55,7 +84,8 @@ def names_of(crate, folder):
     said, status = prover.check(folder, crate, prover.USES[crate], *flags)
     assert status == 0, f"{crate}: {said[:2000]}"
     told = json.loads((folder / "names/names.json").read_text())
-    return {key.removeprefix(f"Rattle-{crate}-proofs.").removesuffix(".Lts"): told[key] for key in told}
+    told = {key.removeprefix(f"Rattle-{crate}-proofs.").removesuffix(".Lts").replace(".", "::"): told[key] for key in told}
+    return told
 
 
 def other_names(right, faulty):
@@ -73,14 +103,12 @@ def other_names(right, faulty):
     return {one: others.pop() for one, others in found.items() if len(others) == 1}
 
 
-def cite(crate, fault, number, names, folder):
-    """Has the copy of the proof name the faulty function's goals and steps; gives the present name of the goal that must be open."""
-    path, name = place_of(fault)
-    other = other_names(names[fault.breaks.replace("::", ".")], names[".".join(filter(None, [*path.split("::"), beside(name, number)]))])
-    here = ".".join(["Rattle", crate, "proofs", *filter(None, path.split("::")), name])
-    proofs = folder / "proofs" / path.replace("::", "/") / beside(name, number)
-    for file in proofs.glob("*.antt") if proofs.is_dir() else []:
-        text = re.sub(rf"{re.escape(here)}(?=[.\s;]|$)", beside(here, number), file.read_text())
+def cite(crate, fault, place, right, faulty, folder):
+    """Has the proof of a faulty function name its goals and steps; gives the present name of the goal that must be open."""
+    other = other_names(right[fault.breaks], faulty[place]) if place in faulty else {}
+    here, there = (".".join(["Rattle", crate, "proofs", *path.split("::")]) for path in (fault.breaks, place))
+    for file in (folder / "proofs" / place.replace("::", "/")).glob("*.antt"):
+        text = re.sub(rf"{re.escape(here)}(?=[.\s;]|$)", there, file.read_text())
         file.write_text(WORD.sub(lambda m: "+".join(other.get(part, part) for part in m[0].split("+")), text))
     return other.get(fault.goal, fault.goal)
 
@@ -112,18 +140,28 @@ def wrong(errors, place, goal):
 
 def in_code(crate, tried):
     """What is wrong with the refusal of each fault in a crate's code."""
+    whys, log, right = {}, "", None
     with tempfile.TemporaryDirectory() as at:
-        folder = Path(at)
-        put_beside(crate, tried, folder)
-        names = names_of(crate, folder)
-        goals = [cite(crate, fault, number, names, folder) for number, fault in enumerate(tried)]
-        places = [f"{path}::{beside(name, n)}".removeprefix("::") for n, (path, name) in enumerate(map(place_of, tried))]
-        flags = [word for place in places for word in ("--only", place)]
-        work = prover.kept([crate], folder / "kept")
-        said, _ = prover.check(folder, crate, prover.USES[crate], *flags, work=work)
-        keep(crate, said)
-        found = said_of(said, crate)
-        return [wrong(found.get(place, []), fault.breaks, goal) for fault, place, goal in zip(tried, places, goals)]
+        for number, (put, some) in enumerate(copies(tried)):
+            folder = Path(at) / str(number)
+            places = put(crate, some, folder)
+            names = names_of(crate, folder)
+            if not right:
+                right = names  # the first copy has every right function
+                for path in functions_of(ROOT / "crates" / crate):
+                    assert path in right, f"{crate}: the prover has another name for {path}"
+            if not some:
+                continue
+            goals = [cite(crate, fault, place, right, names, folder) for fault, place in zip(some, places)]
+            flags = [word for place in places for word in ("--only", place)]
+            said, _ = prover.check(folder, crate, prover.USES[crate], *flags, work=prover.kept([crate], folder / "kept"))
+            log += said
+            found = said_of(said, crate)
+            for fault, place, goal in zip(some, places, goals):
+                why = wrong(found.get(place, []), fault.breaks, goal) if place in names else f"{fault.breaks} has no proof for another reason"
+                whys[fault.edit, fault.label] = why
+    keep(crate, log)
+    return [whys[fault.edit, fault.label] for fault in tried]
 
 
 def in_statements(crate, tried):

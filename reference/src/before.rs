@@ -1,17 +1,17 @@
-//! The proved library as it was before there were editions, for the benchmark:
-//! its settings have neither an edition nor whether it is stated, and its state
-//! is 8 bytes shorter. tools/bench gives its functions these names, so that one
-//! program has both libraries.
+//! The proved library as another commit has it, for the benchmark, with the
+//! state that it has since there are editions. tools/bench gives its functions
+//! these names, so that one program has both libraries.
 
+type Seven = [u32; 7];
 type Five = [u32; 5];
 type Words = [u32; 16];
 type Bytes = [u8; 64];
 
-/// The state of 680 bytes, part by part.
+/// The state of 688 bytes, part by part.
 #[repr(C)]
 #[derive(Clone, Copy)]
 pub struct State {
-    settings: Five,
+    settings: Seven,
     shares: Words,
     used: Words,
     clock: Five,
@@ -25,13 +25,13 @@ pub struct State {
     queue: Bytes,
 }
 
-const _: () = assert!(size_of::<State>() == 680);
+const _: () = assert!(size_of::<State>() == 688);
 
 extern "C" {
     fn before_lent_start(
         sheet: *const u8,
         sheet_length: u64,
-        settings: &mut Five,
+        settings: &mut Seven,
         shares: &mut Words,
         used: &mut Words,
         clock: &mut Five,
@@ -47,7 +47,7 @@ extern "C" {
         history_length: u64,
     ) -> u32;
     fn before_lent_event(
-        settings: &Five,
+        settings: &Seven,
         shares: &Words,
         used: &mut Words,
         clock: &mut Five,
@@ -65,7 +65,7 @@ extern "C" {
         event_length: u64,
     ) -> u32;
     fn before_lent_run(
-        settings: &Five,
+        settings: &Seven,
         shares: &Words,
         used: &mut Words,
         clock: &mut Five,

@@ -81,12 +81,37 @@ def mirrored(mirror, home, tools, kept):
     compiler.chmod(0o755)
 
 
+# the bytes of a number and a pointer on x86-64; each begins at a multiple of them
+SIZES = {"i1": 1, "i8": 1, "i16": 2, "i32": 4, "i64": 8, "ptr": 8}
+
+
+def parted(load):
+    """The load of a pair as loads of its parts, from the places that they have on x86-64: there they were stored, each by its place."""
+    space, name, pair, address, align = load[1], load[2], load[3].split(", "), load[4], int(load[5])
+    lines, place, whole = [], 0, "poison"
+    for number, part in enumerate(pair):
+        place = -(-place // SIZES[part]) * SIZES[part]
+        lines.append(f"{name}.place{number} = getelementptr i8, ptr {address}, i64 {place}")
+        lines.append(f"{name}.part{number} = load {part}, ptr {name}.place{number}, align {min(align, place & -place or align)}")
+        with_part = name if number + 1 == len(pair) else f"{name}.with{number}"
+        lines.append(f"{with_part} = insertvalue {{ {load[3]} }} {whole}, {part} {name}.part{number}, {number}")
+        whole, place = with_part, place + SIZES[part]
+    return "\n".join(space + line for line in lines)
+
+
 def neutral(source):
-    """A module's text without what it says of x86-64: the layout of data, the processor, how a stack is probed."""
+    """A module's text without what it says of x86-64: the layout of data, the processor, how a stack is probed.
+
+    In memory the module has everything at places of its own choice, in bytes, but for a pair that a function answers with: its load names the types
+    alone, and another processor would take a pointer's neighbour from another place.
+    """
     source = re.sub(r"^target (datalayout|triple) = .*\n", "", source, flags=re.M)
     source, changed = re.subn(r' "probe-stack"="inline-asm" "stack-probe-size"="\d+" "target-cpu"="x86-64"', "", source)
     if not changed or "x86" in source:
         raise Failed("the module speaks of x86 in a way that is not known here")
+    source = re.sub(r"^( *)(%[\w.]+) = load \{ ([^{}]*) \}, ptr (%[\w.]+), align (\d+)$", parted, source, flags=re.M)
+    if re.search(r" = type |\b(load|store|alloca|constant|global|getelementptr[a-z ]*) <?\{", source):
+        raise Failed("the module has data whose layout a processor would choose")
     return source
 
 

@@ -1,9 +1,10 @@
 -- The charge of the arrays as the model's.
 use mathlib.Core.Logic.{◌≢◌}
-use mathlib.Core.Path.{◌≡◌, refl, sym, ap, subst, ◌∙◌}
-use Prim.Native.Nat.{ℕ, zero, suc, ◌+◌, ◌*◌, ◌<◌}
-use mathlib.Core.List.{List, [], ◌∷◌, map}
-use lib.ListN.{length, get_or, set, length-map}
+use mathlib.Core.Path.{◌≡◌, sym, ap, subst, ◌∙◌}
+use Prim.Native.Nat.{ℕ, ◌+◌, ◌*◌, ◌<◌}
+use mathlib.Core.List.{List, map}
+use lib.ListN.{length, get_or, set, length-map, get_or-map}
+use Rattle.std.proofs.lemmas.List.{map-set}
 use borrow.Author.Tests.{eq-eqb, ne_eqb}
 use Rattle.units.specs.Units.{elapsed_of}
 use Rattle.units.specs.declared.Cycles.{Cycles}
@@ -16,18 +17,11 @@ use Rattle.model.specs.declared.Clock.{Clock}
 use Rattle.model.proofs.Table.{thread_at_law}
 use Rattle.accounts.specs.Charged.{payer_of, Charged}
 
-pub map_set : (u : List ℕ) (i v : ℕ) → map cycles (set u i v) ≡ set (map cycles u) i (cycles v)
-map_set [] i v = refl
-map_set (x ∷ u) zero v = refl
-map_set (x ∷ u) (suc i) v = ap (λ (l : List Cycles). cycles x ∷ l) (map_set u i v)
-
 pub map_length : (u : List ℕ) → length (map cycles u) ≡ length u
 map_length u = length-map u cycles
 
 pub used_at_law : (u : List ℕ) (i : ℕ) → (get_or (map cycles u) i (cycles 0)).0 ≡ get_or u i 0
-used_at_law [] i = refl
-used_at_law (x ∷ u) zero = refl
-used_at_law (x ∷ u) (suc i) = used_at_law u i
+used_at_law u i = ap (λ (x : Cycles). x.0) (get_or-map cycles u i 0)
 
 charged_idle : (s : State) (h : List ℕ) (stamp e : ℕ) → e ≡ elapsed_of stamp s.stamp → s.running ≡ 255
     → saved (with_clock s stamp s.slot.0 (s.since.0 + e)) h ≡ charge (saved s h) stamp
@@ -60,7 +54,7 @@ module _ (c : Settings) (u : List ℕ) (k : Clock) (p h : List ℕ) (stamp x : �
       let s = state_of c u k ts l in
       let who : payer s ≡ payer_of k p = ap (λ (t : Thread). t.partition) (thread_at_law ts k.running low) in
       let more : map cycles (set u (payer_of k p) (get_or u (payer_of k p) 0 + x)) ≡ set (map cycles u) (payer s) (cycles (used s (payer s) + x)) =
-      map_set u (payer_of k p) (get_or u (payer_of k p) 0 + x) ∙ ap (λ (v : ℕ). set (map cycles u) (payer_of k p) (cycles (v + x))) (sym (used_at_law u (payer_of k p)))
+      map-set cycles u (payer_of k p) (get_or u (payer_of k p) 0 + x) ∙ ap (λ (v : ℕ). set (map cycles u) (payer_of k p) (cycles (v + x))) (sym (used_at_law u (payer_of k p)))
       ∙ ap (λ (a : ℕ). set (map cycles u) a (cycles ((get_or (map cycles u) a (cycles 0)).0 + x))) (sym who) in
       let there : h' ≡ set h (payer s * W c + k.slot.0) (get_or h (payer s * W c + k.slot.0) 0 + x) =
       f ∙ ap (λ (a : ℕ). set h (a * W c + k.slot.0) (get_or h (a * W c + k.slot.0) 0 + x)) (sym who) in

@@ -1,11 +1,11 @@
 -- Clearing rows, one row more.
 use mathlib.Core.Path.{◌≡◌, ap₂, ◌∙◌}
 use mathlib.Core.List.{List, ◌++◌, append_assoc}
-use Prim.Native.Nat.{ℕ, ◌+◌, ◌*◌, ◌≤◌}
+use Prim.Native.Nat.{ℕ, ◌+◌, ◌*◌}
 use native.Mathlib.Omega.{arith}
 use native.Mathlib.Nat.{suc-mul}
 use native.Mathlib.Numerals.{add-one}
-use lib.ListN.{length, take, drop, replicate, length-append, length-replicate, length-drop, replicate-append-replicate}
+use lib.ListN.{take, drop, replicate, length-replicate, replicate-append-replicate}
 use lib.Seq.{take_at, drop_at, drop-drop}
 
 abbrev zeros : ℕ → List ℕ
@@ -29,6 +29,3 @@ cleared_more w p n h now row k r e =
 
     next : (p + 1) * w ≡ p * w + w
     next = rw (add-one, suc-mul p w) (omega arith)
-
-pub cleared_length : (w p : ℕ) (h : List ℕ) → p * w ≤ length h → length (zeros (p * w) ++ drop (p * w) h) ≡ length h
-cleared_length w p h k = simp (length-append, length-replicate, length-drop) (omega arith)

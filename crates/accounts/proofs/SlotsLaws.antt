@@ -9,7 +9,8 @@ use Rattle.model.specs.State.{cycles}
 use Rattle.lists.proofs.Parts.{row_end}
 use Rattle.units.specs.declared.Cycles.{Cycles}
 use Rattle.model.specs.Step.{clear_history, lower_used}
-use Rattle.accounts.proofs.ChargingLaws.{map_set, used_at_law}
+use Rattle.std.proofs.lemmas.List.{map-set}
+use Rattle.accounts.proofs.ChargingLaws.{used_at_law}
 use Rattle.accounts.specs.Lowered.{lowered}
 
 module _ (w k : ℕ) (h : List ℕ) where
@@ -31,6 +32,6 @@ module _ (w k : ℕ) (h : List ℕ) where
   unfolding lowered lower_used
   lowered_totals zero u = refl
   lowered_totals (suc n) u =
-      map_set (lowered w k n u h) n (get_or u n 0 - get_or h (n * w + k) 0)
+      map-set cycles (lowered w k n u h) n (get_or u n 0 - get_or h (n * w + k) 0)
       ∙ ap (λ (l : List Cycles). set l n (cycles (get_or u n 0 - get_or h (n * w + k) 0))) (lowered_totals n u)
       ∙ ap (λ (x : ℕ). set (lower_used w k n (map cycles u) h) n (cycles (x - get_or h (n * w + k) 0))) (sym (used_at_law u n))

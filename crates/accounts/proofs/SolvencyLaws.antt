@@ -1,12 +1,14 @@
 -- A set stays right where one partition is weighed anew.
 use mathlib.Core.Logic.{◌≢◌}
-use mathlib.Core.Path.{◌≡◌, refl, sym, ap, ap₂, subst, ◌∙◌}
-use Prim.Native.Nat.{ℕ, zero, suc, ◌+◌, ◌-◌, ◌*◌, ◌≤◌, ◌<◌}
-use mathlib.Core.Bool.{Bool, not, cond, ◌&&◌}
+use mathlib.Core.Path.{◌≡◌, sym, ap, ap₂, ◌∙◌}
+use Prim.Native.Nat.{ℕ, ◌+◌, ◌-◌, ◌*◌, ◌≤◌, ◌<◌}
+use mathlib.Core.Bool.{Bool, not, ◌&&◌}
 use mathlib.Core.List.{List, ◌++◌}
-use lib.ListN.{length, get_or, set, take, drop, replicate}
+use lib.ListN.{length, get_or, set, take, drop}
 use lib.Seq.{get_or-set_same, get_or-set_other}
 use lib.Dec.{eqb, ltb}
+use borrow.Author.Count.{below_more}
+use Rattle.std.proofs.lemmas.Bool.Decides.{nat_tests}
 use native.Mathlib.Omega.{arith}
 use native.Mathlib.Numerals.{add-one}
 use Rattle.lists.proofs.Parts.{part_at, part_set}
@@ -16,28 +18,24 @@ use Rattle.sheet.specs.declared.Settings.{Settings}
 use Rattle.model.specs.Step.{clear_history}
 use Rattle.accounts.specs.Lowered.{lowered}
 use Rattle.accounts.proofs.SlotsLaws.{later_total, later_place}
-use native.Mathlib.Decide.{ℕ_discrete, dec_lt}
+use native.Mathlib.Decide.{ℕ_discrete}
 use borrow.Author.Tests.{eq-eqb, ne_eqb, lt-ltb, le-ltb}
 use Rattle.sets.specs.Bits.{in_set, Marked}
-use Rattle.units.specs.Units.{remaining_of, has_budget_of}
 use Rattle.accounts.specs.Solvency.{has_at, Reweighed}
 
-marked_here : (w p r : ℕ) (on : Bool) → p < 16 → Marked 16 w p on r → in_set r p ≡ on
-marked_here w p r on b m = m p b ∙ ap (λ (z : Bool). cond z on (in_set w p)) (eq-eqb p p refl)
-
-marked_other : (w p r q : ℕ) (on : Bool) → q < 16 → q ≢ p → Marked 16 w p on r → in_set r q ≡ in_set w q
-marked_other w p r q on b n m = m q b ∙ ap (λ (z : Bool). cond z on (in_set w q)) (ne_eqb q p n)
+-- a set that is right for f but at p, once p is marked as f has it
+marked_as : (f : ℕ → Bool) (w p r : ℕ) → Marked 16 w p (f p) r → (q : ℕ) → q < 16 → (q ≢ p → in_set w q ≡ f q) → in_set r q ≡ f q
+marked_as f w p r m q low others = go (ℕ_discrete q p)
+  where
+    go : Dec (q ≡ p) → in_set r q ≡ f q
+    go (yes e) = m q low ∙ rw (eq-eqb q p e, e)
+    go (no n) = m q low ∙ rw (ne_eqb q p n) (others n)
 
 module _ (old new budgets : List ℕ) (need set₀ set' p : ℕ) where
   -- the others' totals are as they were
-  pub reweighed : ((q : ℕ) → q ≢ p → get_or new q 0 ≡ get_or old q 0) → p < 16 → Marked 16 set₀ p (has_at new budgets need p) set' → Reweighed old new budgets need set₀ set'
-  reweighed same low m n few h q b = go (ℕ_discrete q p)
-    where
-      go : Dec (q ≡ p) → in_set set' q ≡ has_at new budgets need q
-      go (yes e) = subst (λ (j : ℕ). in_set set' j ≡ has_at new budgets need j) (sym e) (marked_here set₀ p set' (has_at new budgets need p) low m)
-      go (no k) =
-          marked_other set₀ p set' q (has_at new budgets need p) (omega (arith, b, few)) k m ∙ h q b
-          ∙ ap (λ (x : ℕ). has_budget_of (remaining_of (get_or budgets q 0) x) need) (sym (same q k))
+  pub reweighed : ((q : ℕ) → q ≢ p → get_or new q 0 ≡ get_or old q 0) → Marked 16 set₀ p (has_at new budgets need p) set' → Reweighed old new budgets need set₀ set'
+  reweighed same m n few h q b =
+      marked_as (has_at new budgets need) set₀ p set' m q (omega arith) (λ k. rw (same q k) (h q b))
 
 -- one change after another
 pub reweighed_twice : (a b c budgets : List ℕ) (need x y z : ℕ) → Reweighed a b budgets need x y → Reweighed b c budgets need y z → Reweighed a c budgets need x z
@@ -65,35 +63,21 @@ module _ (w k : ℕ) (totals history : List ℕ) (p m : ℕ) (u h : List ℕ) (i
 
 -- ---- the budgets, one partition more
 
-module _ (c : Settings) (p : ℕ) (low : p < 16) where
-  pub amounts_more : (l : List ℕ) (v : ℕ) → length l ≡ 16 → v ≡ budget c p → ((q : ℕ) → q < p → get_or l q 0 ≡ budget c q)
+module _ (c : Settings) (p : ℕ) where
+  pub amounts_more : (l : List ℕ) (v : ℕ) → p < length l → v ≡ budget c p → ((q : ℕ) → q < p → get_or l q 0 ≡ budget c q)
       → (q : ℕ) → q < p + 1 → get_or (set l p v) q 0 ≡ budget c q
-  amounts_more l v wide e h q b = go (ℕ_discrete q p)
-    where
-      go : Dec (q ≡ p) → get_or (set l p v) q 0 ≡ budget c q
-      go (yes s) = subst (λ (j : ℕ). get_or (set l p v) j 0 ≡ budget c j) (sym s) (get_or-set_same l p v 0 (omega (arith, low, wide)) ∙ e)
-      go (no n) = get_or-set_other l p q v 0 n ∙ h q (omega arith)
+  amounts_more l v within e h =
+      below_more _ _ (λ q b. get_or-set_other l p q v 0 (omega arith) ∙ h q b) (get_or-set_same l p v 0 within ∙ e)
 
   pub paying_more : (set₀ set' v : ℕ) → v ≡ budget c p → Marked 16 set₀ p (not (eqb v 0)) set'
       → ((q : ℕ) → q < 16 → in_set set₀ q ≡ (ltb q p && not (eqb (budget c q) 0)))
       → (q : ℕ) → q < 16 → in_set set' q ≡ (ltb q (p + 1) && not (eqb (budget c q) 0))
-  paying_more set₀ set' v e m h q b = go (ℕ_discrete q p)
+  paying_more set₀ set' v e m h q b =
+      marked_as (λ j. ltb j (p + 1) && not (eqb (budget c j) 0)) set₀ p set' (rw (lt-ltb p (p + 1) (omega arith), ← e) m) q b
+      (λ n. h q b ∙ ap (λ (z : Bool). z && not (eqb (budget c q) 0)) (wider n))
     where
-      go : Dec (q ≡ p) → in_set set' q ≡ (ltb q (p + 1) && not (eqb (budget c q) 0))
-      go (yes s) =
-          subst (λ (j : ℕ). in_set set' j ≡ (ltb j (p + 1) && not (eqb (budget c j) 0))) (sym s)
-          (marked_here set₀ p set' (not (eqb v 0)) low m ∙ ap (λ (x : ℕ). not (eqb x 0)) e
-          ∙ sym (ap (λ (z : Bool). z && not (eqb (budget c p) 0)) (lt-ltb p (p + 1) (omega arith))))
-      go (no n) =
-          marked_other set₀ p set' q (not (eqb v 0)) b n m ∙ h q b ∙ ap (λ (z : Bool). z && not (eqb (budget c q) 0)) (wider (dec_lt q p))
-        where
-          wider : Dec (q < p) → ltb q p ≡ ltb q (p + 1)
-          wider (yes a) = lt-ltb q p a ∙ sym (lt-ltb q (p + 1) (omega arith))
-          wider (no a) = le-ltb q p (omega arith) ∙ sym (le-ltb q (p + 1) (omega arith))
+      wider : q ≢ p → ltb q p ≡ ltb q (p + 1)
+      wider n = grind (arith, nat_tests)
 
 pub paying_none : (c : Settings) (q : ℕ) → in_set 0 q ≡ (ltb q 0 && not (eqb (budget c q) 0))
 paying_none c q = bits.none q ∙ sym (ap (λ (z : Bool). z && not (eqb (budget c q) 0)) (le-ltb q 0 (omega arith)))
-
-pub length_same : (n v : ℕ) → length (replicate n v) ≡ n
-length_same zero v = refl
-length_same (suc n) v = ap suc (length_same n v)

@@ -66,9 +66,9 @@ module _ (c : Settings) (u : List ℕ) (k : Clock) (p h u' : List ℕ) (k' : Clo
       total_as q _ (totals ∙ used_paid s (elapsed_of stamp k.stamp) on)
       ∙ ap (λ (y : Cycles). y.0) (get_or-set_other (map cycles u) (thread s k.running).partition q x (cycles 0) (λ e. n (e ∙ who))) ∙ used_at_law u q
 
-  pub paid_weighed : (budgets : List ℕ) (need set₀ set' : ℕ) → k.running ≢ 255 → k.running < 64 → payer_of k p < 16
+  pub paid_weighed : (budgets : List ℕ) (need set₀ set' : ℕ) → k.running ≢ 255 → k.running < 64
       → Marked 16 set₀ (payer_of k p) (has_at u' budgets need (payer_of k p)) set' → Reweighed u u' budgets need set₀ set'
-  paid_weighed budgets need set₀ set' on low b m = reweighed u u' budgets need set₀ set' (payer_of k p) (others on low) b m
+  paid_weighed budgets need set₀ set' on low m = reweighed u u' budgets need set₀ set' (payer_of k p) (others on low) m
 
 -- ---- a tick
 

@@ -21,7 +21,6 @@ pub record Pays (c : Settings) (u : List ℕ) (k : Clock) (p h : List ℕ) (e : 
   pub row : payer_of k p * W c + W c ≤ length h
 
 pub record Payable (c : Settings) (u : List ℕ) (k : Clock) (p h : List ℕ) (stamp : ℕ) : Type 0 where
-  pub sixteen : length u ≡ 16
   pub since : k.since.0 + elapsed_of stamp k.stamp < 2 ^ 32
   pub pays : k.running ≢ 255 → Pays c u k p h (elapsed_of stamp k.stamp)
 

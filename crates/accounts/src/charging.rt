@@ -1,8 +1,8 @@
 // The charge: elapsed time goes to the partition of the thread that ran, in the lent totals and in the lent history.
 ghost use Rattle.accounts.specs.Charged.{Payable, Charged};
 
-use crate::{IDLE, history};
-use model::Clock;
+use crate::history;
+use model::{Clock, IDLE};
 use sheet::Settings;
 use units::Cycles;
 
@@ -20,31 +20,14 @@ pub fn charge(
     ensures { Charged settings used.old c partitions.now history.old used.new result history.new stamp }
 {
     let amount = units::elapsed(stamp, c.stamp);
-    let slot = c.slot;
-    let before = c.since;
-    let since = units::plus(before, amount);
-    let queued = c.queued;
-    let running = c.running;
-    if running == IDLE {
-        return Clock {
-            stamp: stamp,
-            slot: slot,
-            since: since,
-            queued: queued,
-            running: running,
-        };
+    let since = units::plus(c.since, amount);
+    let clock = Clock { stamp, since, ..c };
+    if c.running == IDLE {
+        return clock;
     }
-    let payer = partitions[running as usize];
+    let payer = partitions[c.running as usize];
     let p = payer as usize;
-    let total = units::plus(Cycles(used[p]), amount);
-    used[p] = total.0;
-    let window = settings.window;
-    history::charge_slot(history, window, payer, slot, amount);
-    Clock {
-        stamp: stamp,
-        slot: slot,
-        since: since,
-        queued: queued,
-        running: running,
-    }
+    used[p] = units::plus(Cycles(used[p]), amount).0;
+    history::charge_slot(history, settings.window, payer, c.slot, amount);
+    clock
 }

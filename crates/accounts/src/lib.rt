@@ -5,6 +5,3 @@ pub mod charging;
 pub mod history;
 pub mod solvency;
 pub mod window;
-
-// The number of no thread: nothing runs.
-pub const IDLE: u32 = 255;

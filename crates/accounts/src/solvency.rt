@@ -12,25 +12,14 @@ ghost use Rattle.accounts.specs.Solvency.{has_at, WeighedIn, Reweighed};
 use sheet::Settings;
 use units::{Cycles, Ticks};
 
-// Partition p has budget, or has not; the others stay.
-fn weigh(solvent: u16, used: Cycles, budget: Cycles, need: Cycles, p: u8) -> u16
-    requires { p < 16 }
-    ensures { Marked 16 solvent p (has_budget_of (remaining_of budget.0 used.0) need.0) result }
-{
-    let rest = units::remaining(budget, used);
-    let has = units::has_budget(rest, need);
-    sets::mark(solvent, p, has)
-}
-
-// After partition p was charged.
+// After partition p was charged: it has budget, or has not; the others stay.
 pub fn weigh_at(used: &[u32; 16], budgets: &[u32; 16], need: Cycles, solvent: u16, p: u8) -> u16
     requires { p < 16 }
     ensures { Marked 16 solvent p (has_at used.now budgets.now need.0 p) result }
 {
     let at = p as usize;
-    let u = used[at];
-    let b = budgets[at];
-    weigh(solvent, Cycles(u), Cycles(b), need, p)
+    let rest = units::remaining(Cycles(budgets[at]), Cycles(used[at]));
+    sets::mark(solvent, p, units::has_budget(rest, need))
 }
 
 // All partitions.
@@ -39,10 +28,8 @@ pub fn weigh_all(used: &[u32; 16], budgets: &[u32; 16], need: Cycles, count: u32
     ensures { WeighedIn used.now budgets.now need.0 count result }
 {
     let mut set: u16 = 0;
-    let mut p: u8 = 0;
-    while (p as u32) < count {
+    for p in 0..count as u8 {
         set = weigh_at(used, budgets, need, set, p);
-        p += 1;
     }
     set
 }
@@ -57,7 +44,7 @@ fn clear_in_row(
     solvent: u16,
     p: u8,
 ) -> u16
-    requires { (p < 16) × (length used.old ≡ 16) × (slot.0 < length row.old) × (get_or row.old slot.0 0 ≤ get_or used.old p 0) }
+    requires { (p < 16) × (slot.0 < length row.old) × (get_or row.old slot.0 0 ≤ get_or used.old p 0) }
     ensures { (used.new ≡ set used.old p (get_or used.old p 0 - get_or row.old slot.0 0))
         × (row.new ≡ set row.old slot.0 0)
         × Reweighed used.old used.new budgets.now need.0 solvent result }
@@ -68,11 +55,9 @@ fn clear_in_row(
         return solvent;
     }
     let at = p as usize;
-    let total = units::less(Cycles(used[at]), Cycles(held));
+    used[at] = units::less(Cycles(used[at]), Cycles(held)).0;
     row[k] = 0;
-    used[at] = total.0;
-    let b = budgets[at];
-    weigh(solvent, total, Cycles(b), need, p)
+    weigh_at(used, budgets, need, solvent, p)
 }
 
 // A tick's clearing: one slot for every partition. Each row's part of the lent history is lent on to the function that clears it.
@@ -86,19 +71,17 @@ pub fn clear_slot(
     need: Cycles,
     solvent: u16,
 ) -> u16
-    requires { (length used.old ≡ 16) × Covered used.old history.old window.0 count slot.0 }
+    requires { Covered used.old history.old window.0 count slot.0 }
     ensures { (used.new ≡ lowered window.0 slot.0 count used.old history.old)
         × (history.new ≡ clear_history window.0 slot.0 count history.old)
         × Reweighed used.old used.new budgets.now need.0 solvent result }
 {
     let w = window.0 as usize;
     let mut set = solvent;
-    let mut p: u8 = 0;
-    while (p as u32) < count {
-        let start = (p as usize) * w;
-        let end = start + w;
-        set = clear_in_row(used, budgets, &mut history[start..end], slot, need, set, p);
-        p += 1;
+    for p in 0..count as u8 {
+        let start = p as usize * w;
+        let row = &mut history[start..start + w];
+        set = clear_in_row(used, budgets, row, slot, need, set, p);
     }
     set
 }
@@ -108,20 +91,13 @@ pub fn price(budgets: &mut [u32; 16], settings: Settings) -> u16
     requires { Limits settings }
     ensures { Priced settings budgets.new result }
 {
-    let window = settings.window;
-    let tick = settings.tick;
-    let count = settings.count;
     *budgets = [0u32; 16];
     let mut paying: u16 = 0;
-    let mut p: u8 = 0;
-    while (p as u32) < count {
+    for p in 0..settings.count as u8 {
         let at = p as usize;
-        let share = settings.shares[at];
-        let b = units::budget(share, window, tick);
-        let amount = b.0;
-        budgets[at] = amount;
-        paying = sets::mark(paying, p, amount != 0);
-        p += 1;
+        let budget = units::budget(settings.shares[at], settings.window, settings.tick);
+        budgets[at] = budget.0;
+        paying = sets::mark(paying, p, budget.0 != 0);
     }
     paying
 }

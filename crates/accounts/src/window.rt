@@ -7,8 +7,8 @@ ghost use Rattle.accounts.specs.Lowered.{Covered};
 ghost use Rattle.accounts.specs.Solvency.{WeighedIn, Reweighed};
 ghost use Rattle.accounts.specs.Window.{Moved, Restarted};
 
-use crate::{IDLE, charging, history, solvency};
-use model::Clock;
+use crate::{charging, history, solvency};
+use model::{Clock, IDLE};
 use sheet::Settings;
 use units::{Cycles, Ticks};
 
@@ -34,21 +34,14 @@ pub fn pay(
     ensures { Charged settings used.old c partitions.now history.old used.new result.clock history.new stamp
         × Reweighed used.old used.new budgets.now (need settings) solvent result.solvent }
 {
-    let running = c.running;
     let clock = charging::charge(settings, used, partitions, history, c, stamp);
-    if running == IDLE {
-        return Account {
-            clock: clock,
-            solvent: solvent,
-        };
+    if c.running == IDLE {
+        return Account { clock, solvent };
     }
-    let p = partitions[running as usize];
+    let p = partitions[c.running as usize];
     let need = units::need(settings.edition, settings.tick);
-    let set = solvency::weigh_at(used, budgets, need, solvent, p);
-    Account {
-        clock: clock,
-        solvent: set,
-    }
+    let solvent = solvency::weigh_at(used, budgets, need, solvent, p);
+    Account { clock, solvent }
 }
 
 // A tick moves to the next slot, clears it for every partition and lowers the totals by what stood there.
@@ -60,36 +53,25 @@ pub fn move_slot(
     c: Clock,
     solvent: u16,
 ) -> Account
-    requires { (length used.old ≡ 16) × (c.slot.0 < W settings) × Covered used.old history.old (W settings) settings.count (next_of c.slot.0 (W settings)) }
+    requires { (c.slot.0 < W settings) × Covered used.old history.old (W settings) settings.count (next_of c.slot.0 (W settings)) }
     ensures { Moved settings used.old c history.old used.new result.clock history.new
         × Reweighed used.old used.new budgets.now (need settings) solvent result.solvent }
 {
-    let window = settings.window;
-    let slot = c.slot;
-    let next = units::next_slot(slot, window);
+    let slot = units::next_slot(c.slot, settings.window);
     let need = units::need(settings.edition, settings.tick);
-    let set = solvency::clear_slot(
+    let solvent = solvency::clear_slot(
         used,
         budgets,
         history,
-        window,
+        settings.window,
         settings.count,
-        next,
+        slot,
         need,
         solvent,
     );
     let since = Cycles(0);
-    let clock = Clock {
-        stamp: c.stamp,
-        slot: next,
-        since: since,
-        queued: c.queued,
-        running: c.running,
-    };
-    Account {
-        clock: clock,
-        solvent: set,
-    }
+    let clock = Clock { slot, since, ..c };
+    Account { clock, solvent }
 }
 
 // A resume takes the stamp as it is and forgets all history; threads and queue stay.
@@ -105,22 +87,15 @@ pub fn restart(
     ensures { Restarted settings used.old c history.old used.new result.clock history.new stamp
         × WeighedIn used.new budgets.now (need settings) settings.count result.solvent }
 {
-    let window = settings.window;
-    history::clear_rows(history, window, settings.count);
+    history::clear_rows(history, settings.window, settings.count);
     *used = [0u32; 16];
     let need = units::need(settings.edition, settings.tick);
-    let set = solvency::weigh_all(used, budgets, need, settings.count);
-    let first = Ticks(0);
-    let since = Cycles(0);
+    let solvent = solvency::weigh_all(used, budgets, need, settings.count);
     let clock = Clock {
-        stamp: stamp,
-        slot: first,
-        since: since,
-        queued: c.queued,
-        running: c.running,
+        stamp,
+        slot: Ticks(0),
+        since: Cycles(0),
+        ..c
     };
-    Account {
-        clock: clock,
-        solvent: set,
-    }
+    Account { clock, solvent }
 }

@@ -2,14 +2,17 @@
 use mathlib.Core.Logic.{◌⊎◌, inl, inr}
 use mathlib.Core.Path.{◌≡◌, refl, sym, ap, ◌∙◌}
 use Prim.Native.Nat.{ℕ, ◌+◌, ◌*◌, ◌≤◌, ◌<◌}
-use mathlib.Core.Bool.{Bool, true, false, not, cond, or-false, ◌&&◌, ◌||◌}
+use mathlib.Core.Bool.{Bool, true, false, not, cond, beq, or-false, ◌&&◌, ◌||◌}
 use mathlib.Core.List.{List}
 use native.Mathlib.Omega.{arith}
 use native.Mathlib.Decide.{dec_le}
 use lib.Dec.{leb, ltb, eqb}
 use lib.ListN.{get_or}
-use borrow.Author.Tests.{le-leb}
+use borrow.Author.Tests.{le-leb, leb-false}
 use Rattle.units.specs.Units.{elapsed_of}
+use Rattle.refusals.specs.Refusals.{number_of}
+use Rattle.refusals.specs.declared.Refusal.{Refusal}
+use Rattle.refusals.proofs.Laws.{never_zero}
 use Rattle.sheet.specs.Settings.{C}
 use Rattle.sheet.specs.declared.Settings.{Settings}
 use Rattle.model.specs.State.{thread, State, Thread}
@@ -17,13 +20,14 @@ use Rattle.model.specs.Slices.{round_robin}
 use Rattle.model.specs.Event.{stamp_of, names_thread, well_formed, too_long, wrong_thread, wrong_place, wrong_readiness, refused_event}
 use Rattle.model.specs.Arrays.{Columns, with_flag_columns, state_of}
 use Rattle.model.specs.declared.Clock.{Clock}
+use Rattle.lists.proofs.Tests.{neither, passes, clash}
 use Rattle.model.proofs.Table.{thread_at_law}
 use Rattle.event.specs.declared.kinds.Action.{Action}
 use Rattle.event.specs.declared.kinds.Action.TheVariants.{Unknown, Tick, Create, Ready, Block, SetPriority, End, Resume}
 use Rattle.event.specs.Kinds.{kind_number}
 use Rattle.event.specs.Bytes.{bytes_of}
 use Rattle.event.specs.declared.Event.{Event}
-use Rattle.admission.specs.Tests.{late, create_refused, ready_refused, block_refused, other_refused}
+use Rattle.admission.specs.Tests.{late, missing_in, create_refused, ready_refused, block_refused, readiness_refused, other_refused}
 
 -- an action that is no resume has another kind
 pub other_kind : (a : Action) → (a ≡ Resume → ⊥) → eqb (kind_number a) 7 ≡ false
@@ -35,6 +39,43 @@ other_kind Block h = refl
 other_kind SetPriority h = refl
 other_kind End h = refl
 other_kind Resume h = absurd (h refl)
+
+-- ---- readiness, behind the test that the thread exists
+
+module _ (e : List ℕ) (t : ℕ) where
+  pub there : 0 ≡ other_refused e t → missing_in e t ≡ false
+  unfolding other_refused
+  there z = (passes (missing_in e t) 11 0 tt (sym z)).0
+
+  pub inside : 0 ≡ other_refused e t → t < 64
+  inside z = leb-false 64 t (neither (leb 64 t) (not (eqb (get_or e t 0) 1)) (there z)).0
+
+  module _ (r : List ℕ) (wanted : Bool) where
+    pub refused_first : (x : Refusal) → number_of x ≡ other_refused e t → number_of x ≡ readiness_refused e r t wanted
+    unfolding other_refused ready_refused block_refused
+    refused_first x f = f ∙ go (missing_in e t) wanted (sym (ap (λ (m : ℕ). eqb m 0) f) ∙ never_zero x)
+      where
+        go : (b w : Bool) → eqb (cond b 11 0) 0 ≡ false
+            → ◌≡◌ {A = ℕ} (cond b 11 0) (cond w (cond b 11 (cond (not (eqb (get_or r t 0) 1)) 13 0)) (cond b 11 (cond (eqb (get_or r t 0) 1) 13 0)))
+        go true true z = refl
+        go true false z = refl
+        go false w z = clash refl z
+
+    by_flag : 0 ≡ other_refused e t → readiness_refused e r t wanted ≡ cond (not (beq (eqb (get_or r t 0) 1) wanted)) 13 0
+    unfolding ready_refused block_refused
+    by_flag z = rw (there z) (go (eqb (get_or r t 0) 1) wanted)
+      where
+        go : (x w : Bool) → ◌≡◌ {A = ℕ} (cond w (cond (not x) 13 0) (cond x 13 0)) (cond (not (beq x w)) 13 0)
+        go true true = refl
+        go true false = refl
+        go false true = refl
+        go false false = refl
+
+    pub otherwise : 0 ≡ other_refused e t → not (beq (eqb (get_or r t 0) 1) wanted) ≡ true → 13 ≡ readiness_refused e r t wanted
+    otherwise z i = sym (by_flag z ∙ rw i)
+
+    pub as_wanted : 0 ≡ other_refused e t → not (beq (eqb (get_or r t 0) 1) wanted) ≡ false → 0 ≡ readiness_refused e r t wanted
+    as_wanted z i = sym (by_flag z ∙ rw i)
 
 module _ (c : Settings) (k : Clock) (e r : List ℕ) (x : Event) (form : well_formed (bytes_of x) ≡ true) (st : x.stamp ≡ stamp_of (bytes_of x)) (u : List ℕ) (others : Columns) (q : List ℕ) where
   abbrev ts : Columns
@@ -94,13 +135,10 @@ module _ (c : Settings) (k : Clock) (e r : List ℕ) (x : Event) (form : well_fo
     unfolding block_refused wrong_thread wrong_place wrong_readiness names_thread
     at_block i = sym (rest z d f ∙ rw i (ap (λ (y : Bool). cond y 11 (cond (not (thread s t).ready) 13 0)) (exists_is not) ∙ ready_is not (λ y. cond (not y) 13 0)))
 
-    pub at_priority : kind_number x.action ≡ 5 → other_refused e t ≡ refused_event s b
+    pub at_other : (x.action ≡ SetPriority) ⊎ (x.action ≡ End) → other_refused e t ≡ refused_event s b
     unfolding other_refused wrong_thread wrong_place wrong_readiness names_thread
-    at_priority i = sym (rest z d f ∙ rw i (ap (λ (y : Bool). cond y 11 0) (exists_is not)))
-
-    pub at_end : kind_number x.action ≡ 6 → other_refused e t ≡ refused_event s b
-    unfolding other_refused wrong_thread wrong_place wrong_readiness names_thread
-    at_end i = sym (rest z d f ∙ rw i (ap (λ (y : Bool). cond y 11 0) (exists_is not)))
+    at_other (inl i) = sym (rest z d f ∙ rw (ap kind_number i) (ap (λ (y : Bool). cond y 11 0) (exists_is not)))
+    at_other (inr i) = sym (rest z d f ∙ rw (ap kind_number i) (ap (λ (y : Bool). cond y 11 0) (exists_is not)))
 
     pub at_none : (x.action ≡ Unknown) ⊎ ((x.action ≡ Tick) ⊎ (x.action ≡ Resume)) → 0 ≡ refused_event s b
     unfolding wrong_thread wrong_place wrong_readiness names_thread

@@ -1,15 +1,15 @@
 -- The tests of an event, over just the numbers that each looks at.
-use Rattle.std.specs.Prelude.{◌≡◌, ℕ, ◌+◌, ◌*◌, Bool, true, not, cond, ◌&&◌, ◌||◌, List, leb, ltb, eqb, get_or}
+use Rattle.std.specs.Prelude.{◌≡◌, ℕ, ◌+◌, ◌*◌, Bool, true, not, cond, ◌&&◌, ◌||◌, List, leb, ltb, eqb, get_or, Result, Ok}
 use Rattle.units.specs.Units.{elapsed_of}
 use Rattle.refusals.specs.Refusals.{outcome_of}
-use Rattle.refusals.specs.declared.Outcome.{Outcome}
+use Rattle.refusals.specs.declared.Refusal.{Refusal}
 use Rattle.sheet.specs.declared.Settings.{Settings}
 use Rattle.model.specs.Slices.{round_robin}
 use Rattle.model.specs.Event.{well_formed, stamp_of, refused_event}
 use Rattle.model.specs.Arrays.{Columns, with_flag_columns, state_of}
 use Rattle.model.specs.declared.Clock.{Clock}
 use Rattle.event.specs.Bytes.{bytes_of, DecodedFrom}
-use Rattle.event.specs.declared.Decoded.{Decoded}
+use Rattle.event.specs.declared.Event.{Event}
 
 -- 10, of the kind k
 unfoldable pub late : ℕ → ℕ → ℕ → ℕ → ℕ → Bool
@@ -31,16 +31,24 @@ block_refused e r t = cond (missing_in e t) 11 (cond (not (eqb (get_or r t 0) 1)
 unfoldable pub other_refused : List ℕ → ℕ → ℕ
 other_refused e t = cond (missing_in e t) 11 0
 
--- the outcome is the model's, whatever the other arrays are
-abbrev pub Refuses : Settings → Clock → List ℕ → List ℕ → List ℕ → Outcome → Type 0
+-- of a ready, where the flag is to be off, or a block, where it is to be on
+abbrev pub readiness_refused : List ℕ → List ℕ → ℕ → Bool → ℕ
+readiness_refused e r t wanted = cond wanted (block_refused e r t) (ready_refused e r t)
+
+-- the outcome's number is the model's, whatever the other arrays are
+abbrev pub Refuses : Settings → Clock → List ℕ → List ℕ → List ℕ → ℕ → Type 0
 Refuses c k e r b o =
-    (u : List ℕ) (ts : Columns) (q : List ℕ) → outcome_of o ≡ refused_event (state_of c u k (with_flag_columns ts e r) q) b
+    (u : List ℕ) (ts : Columns) (q : List ℕ) → o ≡ refused_event (state_of c u k (with_flag_columns ts e r) q) b
 
 -- an event that was not refused by its form has that form
-pub record Formed (d : Decoded) : Type 0 where
-  pub form : outcome_of d.outcome ≡ 0 → well_formed (bytes_of d.event) ≡ true
-  pub stamp : outcome_of d.outcome ≡ 0 → d.event.stamp ≡ stamp_of (bytes_of d.event)
+pub record Formed (d : Result Event Refusal) : Type 0 where
+  pub form : (x : Event) → d ≡ Ok x → well_formed (bytes_of x) ≡ true
+  pub stamp : (x : Event) → d ≡ Ok x → x.stamp ≡ stamp_of (bytes_of x)
 
 -- the outcome is the model's, of the bytes from which it was decoded
-abbrev pub RefusesAll : Settings → Clock → List ℕ → List ℕ → Decoded → Outcome → Type 0
-RefusesAll c k e r d o = (b : List ℕ) → DecodedFrom b d → Refuses c k e r b o
+abbrev pub RefusesAll : Settings → Clock → List ℕ → List ℕ → Result Event Refusal → Result Event Refusal → Type 0
+RefusesAll c k e r d o = (b : List ℕ) → DecodedFrom b d → Refuses c k e r b (outcome_of o)
+
+-- what is accepted is the event that was decoded
+abbrev pub AcceptsAs : Result Event Refusal → Result Event Refusal → Type 0
+AcceptsAs d o = (x : Event) → o ≡ Ok x → d ≡ Ok x

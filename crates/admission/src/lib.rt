@@ -1,164 +1,119 @@
 // Which events are refused on a sound state, and why: the first refusal that applies.
 #![tactic(auto)]
 
-ghost use Rattle.std.specs.Prelude.{◌≡◌, true, not, ◌||◌, leb, eqb, get_or};
+ghost use Rattle.std.specs.Prelude.{◌≡◌, true};
 ghost use Rattle.refusals.specs.Refusals.{outcome_of};
 ghost use Rattle.model.specs.Event.{well_formed, stamp_of};
 ghost use Rattle.event.specs.Kinds.{kind_number};
 ghost use Rattle.event.specs.Bytes.{bytes_of};
-ghost use Rattle.admission.specs.Tests.{late, create_refused, ready_refused, block_refused, other_refused, Refuses, Formed, RefusesAll};
+ghost use Rattle.admission.specs.Tests.{late, missing_in, create_refused, readiness_refused, other_refused, Refuses, Formed, RefusesAll, AcceptsAs};
 
+use event::Event;
 use event::kinds::Action;
-use event::{Decoded, Event};
 use model::Clock;
-use refusals::{Outcome, Refusal};
+use refusals::Refusal;
 use sheet::Settings;
 use threads::tasks::ROUND_ROBIN;
 use units::Cycles;
 
 // 10: the time since tick would go above 2 × C. A clock that goes back gives a large elapsed.
-fn too_long(action: Action, new: u32, stamp: u32, since: Cycles, tick: Cycles) -> bool
-    ensures { result ≡ late (kind_number action) new stamp since.0 tick.0 }
+#[tactic(auto, using(crate::proofs::Laws::other_kind), unfolding(crate::specs::Tests::late))]
+fn too_long(event: Event, c: Clock, tick: Cycles) -> bool
+    ensures { result ≡ late (kind_number event.action) event.stamp c.stamp c.since.0 tick.0 }
 {
-    let elapsed = units::elapsed(new, stamp);
-    match action {
+    match event.action {
         Action::Resume => false,
-        _ => units::above_two_ticks(since, elapsed, tick),
+        _ => units::above_two_ticks(c.since, units::elapsed(event.stamp, c.stamp), tick),
     }
 }
 
 // No thread of this number exists.
 fn missing(exists: &[u8; 64], t: u8) -> bool
-    ensures { result ≡ (leb 64 t || not (eqb (get_or exists.now t 0) 1)) }
+    ensures { result ≡ missing_in exists.now t }
 {
-    if 64 <= t {
-        return true;
-    }
-    let at = t as usize;
-    exists[at] != 1
+    64 <= t || exists[t as usize] != 1
 }
 
 // A create: 11 for a thread that exists, 12 for a partition not below the count, a run mask of 0, or a policy above 1.
-fn refused_create(
-    exists: &[u8; 64],
-    count: u32,
-    t: u8,
-    partition: u8,
-    mask: u8,
-    policy: u8,
-) -> Outcome
-    ensures { outcome_of result ≡ create_refused exists.now count t partition mask policy }
+#[tactic(auto, unfolding(crate::specs::Tests::create_refused))]
+fn refused_create(exists: &[u8; 64], count: u32, event: Event) -> Result<(), Refusal>
+    ensures { outcome_of result ≡ create_refused exists.now count event.thread event.partition event.mask event.policy }
 {
-    if 64 <= t {
-        return Outcome::Refused(Refusal::Thread);
+    if 64 <= event.thread || exists[event.thread as usize] == 1 {
+        return Err(Refusal::Thread);
     }
-    let at = t as usize;
-    if exists[at] == 1 {
-        return Outcome::Refused(Refusal::Thread);
+    if (count <= event.partition as u32) | (event.mask == 0) | (ROUND_ROBIN < event.policy) {
+        return Err(Refusal::Partition);
     }
-    if (count <= partition as u32) | (mask == 0) | (ROUND_ROBIN < policy) {
-        return Outcome::Refused(Refusal::Partition);
-    }
-    Outcome::Accepted
-}
-
-// A ready: 11 for one that does not exist, 13 for one that is ready.
-fn refused_ready(exists: &[u8; 64], ready: &[u8; 64], t: u8) -> Outcome
-    ensures { outcome_of result ≡ ready_refused exists.now ready.now t }
-{
-    if 64 <= t {
-        return Outcome::Refused(Refusal::Thread);
-    }
-    if missing(exists, t) {
-        return Outcome::Refused(Refusal::Thread);
-    }
-    let at = t as usize;
-    if ready[at] == 1 {
-        return Outcome::Refused(Refusal::Readiness);
-    }
-    Outcome::Accepted
-}
-
-// A block: 11 for one that does not exist, 13 for one that is not ready.
-fn refused_block(exists: &[u8; 64], ready: &[u8; 64], t: u8) -> Outcome
-    ensures { outcome_of result ≡ block_refused exists.now ready.now t }
-{
-    if 64 <= t {
-        return Outcome::Refused(Refusal::Thread);
-    }
-    if missing(exists, t) {
-        return Outcome::Refused(Refusal::Thread);
-    }
-    let at = t as usize;
-    if ready[at] != 1 {
-        return Outcome::Refused(Refusal::Readiness);
-    }
-    Outcome::Accepted
+    Ok(())
 }
 
 // A set priority or an end: 11 for one that does not exist.
-fn refused_other(exists: &[u8; 64], t: u8) -> Outcome
+#[tactic(auto, unfolding(crate::specs::Tests::other_refused))]
+fn refused_other(exists: &[u8; 64], t: u8) -> Result<(), Refusal>
     ensures { outcome_of result ≡ other_refused exists.now t }
 {
     if missing(exists, t) {
-        return Outcome::Refused(Refusal::Thread);
+        return Err(Refusal::Thread);
     }
-    Outcome::Accepted
+    Ok(())
+}
+
+// A ready, of a thread that is not to be ready, or a block, of one that is to be: 11 for one that does not exist, 13 for one that is otherwise.
+#[tactic(auto, using(crate::proofs::Laws::inside, crate::proofs::Laws::otherwise, crate::proofs::Laws::as_wanted))]
+fn refused_readiness(
+    exists: &[u8; 64],
+    ready: &[u8; 64],
+    t: u8,
+    wanted: bool,
+) -> Result<(), Refusal>
+    ensures { outcome_of result ≡ readiness_refused exists.now ready.now t wanted }
+{
+    refused_other(exists, t)?;
+    if (ready[t as usize] == 1) != wanted {
+        return Err(Refusal::Readiness);
+    }
+    Ok(())
 }
 
 // The first refusal that applies to an event of a known form.
+#[tactic(auto, using(crate::proofs::Laws::is_late, crate::proofs::Laws::at_create, crate::proofs::Laws::at_ready, crate::proofs::Laws::at_block, crate::proofs::Laws::at_other, crate::proofs::Laws::at_none))]
 fn refused_action(
     settings: Settings,
     exists: &[u8; 64],
     ready: &[u8; 64],
     c: Clock,
     event: Event,
-) -> Outcome
+) -> Result<(), Refusal>
     requires { (well_formed (bytes_of event) ≡ true) × (event.stamp ≡ stamp_of (bytes_of event)) }
-    ensures { Refuses settings c exists.now ready.now (bytes_of event) result }
+    ensures { Refuses settings c exists.now ready.now (bytes_of event) (outcome_of result) }
 {
-    let since = c.since;
-    let tick = settings.tick;
-    let t = event.thread;
-    let kind = event.action;
-    if too_long(kind, event.stamp, c.stamp, since, tick) {
-        return Outcome::Refused(Refusal::Elapsed);
+    if too_long(event, c, settings.tick) {
+        return Err(Refusal::Elapsed);
     }
-    let action = event.action;
-    match action {
-        Action::Create => refused_create(
-            exists,
-            settings.count,
-            t,
-            event.partition,
-            event.mask,
-            event.policy,
-        ),
-        Action::Ready => refused_ready(exists, ready, t),
-        Action::Block => refused_block(exists, ready, t),
-        Action::SetPriority => refused_other(exists, t),
-        Action::End => refused_other(exists, t),
-        Action::Unknown | Action::Tick | Action::Resume => Outcome::Accepted,
+    let t = event.thread;
+    match event.action {
+        Action::Create => refused_create(exists, settings.count, event),
+        Action::Ready => refused_readiness(exists, ready, t, false),
+        Action::Block => refused_readiness(exists, ready, t, true),
+        Action::SetPriority | Action::End => refused_other(exists, t),
+        Action::Unknown | Action::Tick | Action::Resume => Ok(()),
     }
 }
 
-// The first refusal that applies, in the paper's order: 14 and 9, which decoding found, then 10 to 13. Nothing is asked of the state.
-pub fn refused_event(
+// The event, or the first refusal that applies, in the paper's order: 14 and 9, which decoding found, then 10 to 13. Nothing is asked of the state.
+pub fn admit(
     settings: Settings,
     exists: &[u8; 64],
     ready: &[u8; 64],
     c: Clock,
-    decoded: Decoded,
-) -> Outcome
+    decoded: Result<Event, Refusal>,
+) -> Result<Event, Refusal>
     requires { Formed decoded }
-    ensures { RefusesAll settings c exists.now ready.now decoded result }
+    ensures refused { RefusesAll settings c exists.now ready.now decoded result }
+    ensures accepted { AcceptsAs decoded result }
 {
-    let outcome = decoded.outcome;
-    match outcome {
-        Outcome::Refused(_) => outcome,
-        Outcome::Accepted => {
-            let event = decoded.event;
-            refused_action(settings, exists, ready, c, event)
-        }
-    }
+    let event = decoded?;
+    refused_action(settings, exists, ready, c, event)?;
+    Ok(event)
 }

@@ -1,31 +1,18 @@
 // Checks a share sheet: reads it from standard input, and writes it back, or the line that the desk program prints for a refused one.
 #![tactic(auto)]
 
-use model::Verdict;
-use refusals::Outcome;
 use std::io::Write;
 
 // The sheet written back, or the line of its refusal.
 fn answer(output: &mut impl Write, sheet: &[u8]) {
     let reading = sheet::read_sheet(sheet);
-    let outcome = reading.outcome;
-    let Outcome::Accepted = outcome else {
-        refuse(output, outcome);
+    if let Err(refusal) = reading.outcome {
+        let _ = output.write_all(&lines::line(Err(refusal)));
         return;
-    };
+    }
     let mut buffer = [0u8; 252];
-    let settings = reading.settings;
-    let writing = sheet::write_sheet(settings, &mut buffer);
-    let n = writing.length;
-    let _ = output.write_all(&buffer[..n]);
-}
-
-fn refuse(output: &mut impl Write, outcome: Outcome) {
-    let Outcome::Refused(refusal) = outcome else {
-        return;
-    };
-    let line = lines::line(Verdict::Refused(refusal));
-    let _ = output.write_all(&line);
+    let writing = sheet::write_sheet(reading.settings, &mut buffer);
+    let _ = output.write_all(&buffer[..writing.length]);
 }
 
 fn main(rt: HostRuntime) {

@@ -111,6 +111,13 @@ level_ordered o solvent tops =
     by_both (λ p q. asked o.budget (on_set solvent p q)) (λ p q. asked o.priority (on_priority tops p q))
     (asked_ordered o.budget (on_set solvent) (set_ordered solvent)) (asked_ordered o.priority (on_priority tops) (tops_ordered tops))
 
+-- the best on has budget, and of these the best on top priority
+pub levelled : (o : Order) (solvent : ℕ) (tops : List ℕ) (w v r : ℕ) → Narrowed (λ p q. asked o.budget (on_set solvent p q)) w v
+    → Narrowed (λ p q. asked o.priority (on_priority tops p q)) v r → Narrowed (level_in o solvent tops) w r
+levelled o solvent tops w v r a b =
+    narrowed_twice (λ p q. asked o.budget (on_set solvent p q)) (λ p q. asked o.priority (on_priority tops p q))
+    (asked_ordered o.budget (on_set solvent) (set_ordered solvent)) w v r a b
+
 -- top priorities are kept as one more than they are
 one_more : (a b : ℕ) → compare_numbers (a + 1) (b + 1) ≡ compare_numbers a b
 unfolding compare_numbers

@@ -1,5 +1,5 @@
 -- What each kind of event does to the queue and the threads' numbers is what the functions of the leads ask for.
-use mathlib.Core.Logic.{◌≢◌}
+use mathlib.Core.Logic.{◌≢◌, ◌⊎◌, inl, inr}
 use mathlib.Core.Path.{◌≡◌, refl, sym, ap, subst, ◌∙◌}
 use Prim.Native.Nat.{ℕ, ◌≤◌, ◌<◌}
 use mathlib.Core.Bool.{true, false, not}
@@ -59,7 +59,7 @@ act_unknown : (s : State) (b : List ℕ) → kind_of b ≡ 0 → act s b ≡ s
 unfolding act
 act_unknown s b e = rw e
 
-module _ (core : ℕ) (r ps ns ms q : List ℕ) (queued : ℕ) (tops firsts : List ℕ) (set₀ : ℕ) (action : Action) (t p : ℕ)
+module _ {core : ℕ} {r ps ns ms q : List ℕ} {queued : ℕ} {tops firsts : List ℕ} {set₀ : ℕ} {action : Action} {t p : ℕ}
     (h : Followed core r ps ns ms q queued tops firsts set₀ action t p) where
   abbrev o : Before
   o = h.before
@@ -188,7 +188,7 @@ module _ (core : ℕ) (r ps ns ms q : List ℕ) (queued : ℕ) (tops firsts : Li
     gone_line : leaves line₀ t ≡ line
     gone_line = sym (h.line ∙ ap queue_of does ∙ take-append_seam (leaves line₀ t) _)
 
-    pub gone_asks : (p < 16) × Lined ps q queued core × Left core ps ns ms line tops firsts set₀ p t
+    gone_asks : (p < 16) × Lined ps q queued core × Left core ps ns ms line tops firsts set₀ p t
     gone_asks =
         let stored = ap (λ (y : State). y.threads) does in
         let low = home_in lo hi in (
@@ -205,17 +205,21 @@ module _ (core : ℕ) (r ps ns ms q : List ℕ) (queued : ℕ) (tops firsts : Li
             let e = others x (ap (λ (y : State). y.threads) does) u (eqb-false u t (not-true (eqb u t) n)) in
             (settled.queue.inside u i, omega (arith, e.0, was_valid u i))
 
-  pub does_block : action ≡ Block → act s₀ h.bytes ≡ goes s₀ t (with_ready (thread s₀ t) false)
+  does_block : action ≡ Block → act s₀ h.bytes ≡ goes s₀ t (with_ready (thread s₀ t) false)
   does_block k = act_block s₀ h.bytes t h.named (h.kind ∙ ap kind_number k)
 
-  pub does_end : action ≡ End → act s₀ h.bytes ≡ goes s₀ t absent
+  does_end : action ≡ End → act s₀ h.bytes ≡ goes s₀ t absent
   does_end k = act_end s₀ h.bytes t h.named (h.kind ∙ ap kind_number k)
 
-  pub block_asks : action ≡ Block → (p < 16) × Lined ps q queued core × Left core ps ns ms line tops firsts set₀ p t
+  block_asks : action ≡ Block → (p < 16) × Lined ps q queued core × Left core ps ns ms line tops firsts set₀ p t
   block_asks k = let n : kind_number action ≡ 4 = ap kind_number k in gone_asks (with_ready (thread s₀ t) false) (omega (arith, n)) (omega (arith, n)) (does_block k)
 
-  pub end_asks : action ≡ End → (p < 16) × Lined ps q queued core × Left core ps ns ms line tops firsts set₀ p t
+  end_asks : action ≡ End → (p < 16) × Lined ps q queued core × Left core ps ns ms line tops firsts set₀ p t
   end_asks k = let n : kind_number action ≡ 6 = ap kind_number k in gone_asks absent (omega (arith, n)) (omega (arith, n)) (does_end k)
+
+  pub leave_asks : (action ≡ Block) ⊎ (action ≡ End) → (p < 16) × Lined ps q queued core × Left core ps ns ms line tops firsts set₀ p t
+  leave_asks (inl k) = block_asks k
+  leave_asks (inr k) = end_asks k
 
   -- ---- a thread outside the queue
 
@@ -226,7 +230,7 @@ module _ (core : ℕ) (r ps ns ms q : List ℕ) (queued : ℕ) (tops firsts : Li
       (kept_as core ps ns ms o.threads.partitions o.threads.priorities o.threads.masks line₀ tops firsts set₀
       (λ u m. others x stored u (λ e. clash m (subst (λ (v : ℕ). member v line₀ ≡ false) (sym e) n))) h.kept)
 
-  pub create_kept : action ≡ Create → KeptIn core ps ns ms line tops firsts set₀
+  create_kept : action ≡ Create → KeptIn core ps ns ms line tops firsts set₀
   create_kept k =
       let n : kind_number action ≡ 2 = ap kind_number k in
       let b = inside (omega (arith, n)) (omega (arith, n)) in
@@ -237,20 +241,26 @@ module _ (core : ℕ) (r ps ns ms q : List ℕ) (queued : ℕ) (tops firsts : Li
 
   -- ---- nothing
 
-  pub none_kept : act s₀ h.bytes ≡ s₀ → KeptIn core ps ns ms line tops firsts set₀
+  none_kept : act s₀ h.bytes ≡ s₀ → KeptIn core ps ns ms line tops firsts set₀
   none_kept does =
       subst (λ (l : List ℕ). KeptIn core ps ns ms l tops firsts set₀) (sym (h.line ∙ ap queue_of does))
       (kept_as core ps ns ms o.threads.partitions o.threads.priorities o.threads.masks line₀ tops firsts set₀
       (λ u m. same_as u (ap (λ (l : List Thread). get_or l u absent) (h.threads ∙ ap (λ (y : State). y.threads) does))) h.kept)
 
-  pub tick_kept : action ≡ Tick → KeptIn core ps ns ms line tops firsts set₀
+  tick_kept : action ≡ Tick → KeptIn core ps ns ms line tops firsts set₀
   tick_kept k = none_kept (act_tick s₀ h.bytes (h.kind ∙ ap kind_number k))
 
-  pub resume_kept : action ≡ Resume → KeptIn core ps ns ms line tops firsts set₀
+  resume_kept : action ≡ Resume → KeptIn core ps ns ms line tops firsts set₀
   resume_kept k = none_kept (act_resume s₀ h.bytes (h.kind ∙ ap kind_number k))
 
-  pub unknown_kept : action ≡ Unknown → KeptIn core ps ns ms line tops firsts set₀
+  unknown_kept : action ≡ Unknown → KeptIn core ps ns ms line tops firsts set₀
   unknown_kept k = none_kept (act_unknown s₀ h.bytes (h.kind ∙ ap kind_number k))
+
+  pub quiet_kept : (action ≡ Create) ⊎ ((action ≡ Tick) ⊎ ((action ≡ Resume) ⊎ (action ≡ Unknown))) → KeptIn core ps ns ms line tops firsts set₀
+  quiet_kept (inl k) = create_kept k
+  quiet_kept (inr (inl k)) = tick_kept k
+  quiet_kept (inr (inr (inl k))) = resume_kept k
+  quiet_kept (inr (inr (inr k))) = unknown_kept k
 
   -- ---- a priority
 

@@ -2,26 +2,29 @@
 -- changed.
 use mathlib.Core.Logic.{◌≢◌}
 use mathlib.Core.Path.{◌≡◌, refl, sym, ap, ap₂, subst, ◌∙◌}
-use Prim.Native.Nat.{ℕ, zero, suc, ◌+◌, ◌-◌, ◌≤◌, ◌<◌}
+use Prim.Native.Nat.{ℕ, ◌+◌, ◌≤◌, ◌<◌}
 use mathlib.Core.Bool.{Bool, true, false, not, cond, ◌&&◌, ◌||◌, and-true, and-false, or-true, or-false}
 use mathlib.Core.List.{List, [], ◌∷◌, ◌++◌, append-nil}
-use lib.ListN.{length, get_or, set, take, drop, replicate, length-set}
-use lib.Seq.{get_or-set_same, get_or-set_other, take-add}
+use lib.ListN.{length, get_or, set, take, replicate, length-set}
+use lib.Seq.{get_or-set_same, get_or-set_other, get_or-append_seam}
+use Rattle.std.proofs.lemmas.List.{get_or-take, get_or-replicate, length-append, length-replicate, length-take}
 use lib.Dec.{eqb, ltb}
 use native.Mathlib.Omega.{arith}
 use native.Mathlib.Decide.{ℕ_discrete}
-use borrow.Author.Tests.{eq-eqb, ne_eqb, lt-ltb, le-ltb, eqb-true, eqb-false, not-true}
+use borrow.Author.Tests.{eq-eqb, ne_eqb, eqb-true, eqb-false, not-true, lt-ltb, le-ltb}
+use Rattle.std.proofs.lemmas.List.{set-get_or}
 use Rattle.lists.specs.Lists.{any, keep, first, member, cons_if}
 use Rattle.lists.proofs.Tests.{clash, both}
 use Rattle.lists.proofs.All.{member_keep, keep_append, keep_both, without_none}
-use Rattle.lists.proofs.Loops.{keep_more, keep_take}
+use Rattle.lists.proofs.Loops.{keep_more}
 use Rattle.sets.specs.Bits.{in_set, Put, TakenOut, Only, Marked, Lowest}
 use Rattle.sets.proofs.Laws as bits
 use Rattle.model.specs.State.{allows, may_run}
 use Rattle.model.specs.Step.{leaves, to_tail, to_head, requeued}
-use Rattle.decision.specs.Leads.{top_of, any_of, level_of, lead_in, raised_by, numbers, runnable}
-use Rattle.decision.specs.Keeping.{Right, RightAt, KeptIn, Stale, Left, Changed, Joins}
+use Rattle.decision.specs.Leads.{top_of, any_of, level_of, lead_in, raised_by, tops_of, firsts_of, numbers, runnable}
+use Rattle.decision.specs.Keeping.{Right, RightAt, KeptIn, Stale, Left, Changed, Lined, Joins}
 use Rattle.decision.specs.declared.leads.Lead.{Lead}
+use Rattle.decision.proofs.LeadsArray.{tops_set, firsts_set, lead_at, top_at}
 use Rattle.decision.proofs.ListLeads.{lead_more, lead_stop, keep_same, lead_same, lead_left, level_left, lead_tail, level_tail, changed_any, changed_above, changed_level, changed_first, changed_other}
 
 -- ---- one partition
@@ -91,16 +94,6 @@ module _ (core : ℕ) (ps ms : List ℕ) (p : ℕ) where
   unfolding runnable
   runnable_join a b = keep_append mine a b
 
-  -- along an array
-  pub runnable_past : (q : List ℕ) (i : ℕ) → i < length q → mine (get_or q i 0) ≡ false → runnable core ps ms p (take (i + 1) q) ≡ runnable core ps ms p (take i q)
-  unfolding runnable
-  runnable_past q i h e = keep_take mine q i h ∙ ap (λ (z : Bool). keep mine (take i q) ++ cons_if z (get_or q i 0) []) e ∙ append-nil (keep mine (take i q))
-
-  pub runnable_here : (q : List ℕ) (i : ℕ) → i < length q → mine (get_or q i 0) ≡ true
-      → runnable core ps ms p (take (i + 1) q) ≡ runnable core ps ms p (take i q) ++ (get_or q i 0 ∷ [])
-  unfolding runnable
-  runnable_here q i h e = keep_take mine q i h ∙ ap (λ (z : Bool). keep mine (take i q) ++ cons_if z (get_or q i 0) []) e
-
 module _ (core : ℕ) (ps ns ms tops firsts : List ℕ) (set₀ t : ℕ) where
   -- a partition that the thread is not of, or may not run it here, has what it had
   not_mine : (q : ℕ) → (get_or ps t 0 ≢ q) → may_run (get_or ps t 0) (get_or ms t 0) q core ≡ false
@@ -135,13 +128,12 @@ module _ (core : ℕ) (ps ns ms tops firsts : List ℕ) (set₀ t : ℕ) where
     some_there [] = refl
     some_there (x ∷ l) = refl
 
-    -- it leads its partition
-    pub join_new : get_or tops (get_or ps t 0) 0 < get_or ns t 0 + 1
-        → Joins core ps ns ms t tops firsts set₀ (set tops (get_or ps t 0) (get_or ns t 0 + 1)) (set firsts (get_or ps t 0) t) set'
-    unfolding raised_by
-    join_new h line k = record {
-      wide = length-set tops p (get_or ns t 0 + 1) ∙ k.wide;
-      long = length-set firsts p t ∙ k.long;
+    -- it leads its partition, or its lead stays
+    pub join_raised : (x : Lead) → x ≡ raised_by (record { top = get_or tops (get_or ps t 0) 0; first = get_or firsts (get_or ps t 0) 0 }) (get_or ns t 0) t
+        → Joins core ps ns ms t tops firsts set₀ (set tops (get_or ps t 0) x.top) (set firsts (get_or ps t 0) x.first) set'
+    join_raised x e line k = record {
+      wide = length-set tops p x.top ∙ k.wide;
+      long = length-set firsts p x.first ∙ k.long;
       right = λ q b. at q b (ℕ_discrete p q);
     }
       where
@@ -151,63 +143,74 @@ module _ (core : ℕ) (ps ns ms tops firsts : List ℕ) (set₀ t : ℕ) where
         l : List ℕ
         l = runnable core ps ms p line
 
-        new : ◌≡◌ {A = Lead} (record { top = get_or ns t 0 + 1; first = t }) (lead_in (numbers ns) (l ++ (t ∷ [])))
-        new = sym (lead_more (numbers ns) l t
-            ∙ ap (λ (z : Bool). cond z (record { top = get_or ns t 0 + 1; first = t }) (lead_in (numbers ns) l)) (lt-ltb (level_of (numbers ns) l) (get_or ns t 0 + 1) (rw (← (k.right p low).top) h)))
+        old : ◌≡◌ {A = Lead} (record { top = get_or tops p 0; first = get_or firsts p 0 }) (lead_in (numbers ns) l)
+        old i = record { top = (k.right p low).top i; first = (k.right p low).thread i }
 
-        at : (q : ℕ) → q < 16 → Dec (p ≡ q) → RightAt core ps ns ms (line ++ (t ∷ [])) (set tops p (get_or ns t 0 + 1)) (set firsts p t) set' q
+        new : x ≡ lead_in (numbers ns) (l ++ (t ∷ []))
+        new = e ∙ ap (λ (y : Lead). raised_by y (get_or ns t 0) t) old ∙ sym (lead_more (numbers ns) l t)
+
+        at : (q : ℕ) → q < 16 → Dec (p ≡ q) → RightAt core ps ns ms (line ++ (t ∷ [])) (set tops p x.top) (set firsts p x.first) set' q
         at q b (yes e) =
-            subst (λ (j : ℕ). RightAt core ps ns ms (line ++ (t ∷ [])) (set tops p (get_or ns t 0 + 1)) (set firsts p t) set' j) e
-            (subst (λ (m : List ℕ). Right (numbers ns) m (set tops p (get_or ns t 0 + 1)) (set firsts p t) set' p) (sym (grown line))
-            (right_here (numbers ns) (l ++ (t ∷ [])) tops firsts set' p (get_or ns t 0 + 1) t k.wide k.long low new (in_set_law ∙ sym (some_there l))))
+            subst (λ (j : ℕ). RightAt core ps ns ms (line ++ (t ∷ [])) (set tops p x.top) (set firsts p x.first) set' j) e
+            (subst (λ (m : List ℕ). Right (numbers ns) m (set tops p x.top) (set firsts p x.first) set' p) (sym (grown line))
+            (right_here (numbers ns) (l ++ (t ∷ [])) tops firsts set' p x.top x.first k.wide k.long low new (in_set_law ∙ sym (some_there l))))
         at q b (no n) =
-            right_other (numbers ns) (runnable core ps ms q (line ++ (t ∷ []))) tops firsts set' p (get_or ns t 0 + 1) t set₀ q (λ e. n (sym e)) (others_in q b n)
+            right_other (numbers ns) (runnable core ps ms q (line ++ (t ∷ []))) tops firsts set' p x.top x.first set₀ q (λ e. n (sym e)) (others_in q b n)
             (unmoved line q (not_mine q n) (k.right q b))
 
-    -- it does not
-    pub join_same : get_or ns t 0 + 1 ≤ get_or tops (get_or ps t 0) 0 → Joins core ps ns ms t tops firsts set₀ tops firsts set'
-    unfolding raised_by
-    join_same h line k = record { wide = k.wide; long = k.long; right = λ q b. at q b (ℕ_discrete p q) }
+-- the same of the leads as they are kept
+pub joined : (core : ℕ) (ps ns ms : List ℕ) (leads : List Lead) (set₀ t : ℕ) → get_or ps t 0 < 16 → allows (get_or ms t 0) core ≡ true
+    → (set' : ℕ) → Put 16 set₀ (get_or ps t 0) set' → (x : Lead)
+    → x ≡ raised_by (get_or leads (get_or ps t 0) (record { top = 0; first = 0 })) (get_or ns t 0) t
+    → Joins core ps ns ms t (tops_of leads) (firsts_of leads) set₀ (tops_of (set leads (get_or ps t 0) x)) (firsts_of (set leads (get_or ps t 0) x)) set'
+joined core ps ns ms leads set₀ t low ok set' put x e =
+    rw (tops_set leads (get_or ps t 0) x, firsts_set leads (get_or ps t 0) x)
+    (join_raised core ps ns ms (tops_of leads) (firsts_of leads) set₀ t low ok set' put x
+    (e ∙ ap (λ (y : Lead). raised_by y (get_or ns t 0) t) (lead_at leads (get_or ps t 0))))
+
+-- where the thread leads, and where it does not
+pub leads_now : (old : Lead) (priority t : ℕ) → old.top < priority + 1 → record { top = priority + 1; first = t } ≡ raised_by old priority t
+unfolding raised_by
+leads_now old priority t h = rw (lt-ltb old.top (priority + 1) h)
+
+leads_still : (old : Lead) (priority t : ℕ) → priority + 1 ≤ old.top → old ≡ raised_by old priority t
+unfolding raised_by
+leads_still old priority t h = rw (le-ltb old.top (priority + 1) h)
+
+-- where it does not, its partition competes already
+pub joined_still : (core : ℕ) (ps ns ms : List ℕ) (leads : List Lead) (set₀ t : ℕ) → get_or ps t 0 < 16 → allows (get_or ms t 0) core ≡ true
+    → get_or ns t 0 + 1 ≤ (get_or leads (get_or ps t 0) (record { top = 0; first = 0 })).top
+    → Joins core ps ns ms t (tops_of leads) (firsts_of leads) set₀ (tops_of leads) (firsts_of leads) set₀
+joined_still core ps ns ms leads set₀ t low ok below line k =
+    rw (set-get_or leads p d) at (joined core ps ns ms leads set₀ t low ok set₀ put (get_or leads p d) (leads_still (get_or leads p d) (get_or ns t 0) t below) line k)
+  where
+    p : ℕ
+    p = get_or ps t 0
+
+    d : Lead
+    d = record { top = 0; first = 0 }
+
+    r : RightAt core ps ns ms line (tops_of leads) (firsts_of leads) set₀ (get_or ps t 0)
+    r = k.right (get_or ps t 0) low
+
+    some : in_set set₀ p ≡ true
+    some = r.competes ∙ sym (level_any (numbers ns) (runnable core ps ms p line)) ∙ ap not (ne_eqb (level_of (numbers ns) (runnable core ps ms p line)) 0 (λ z. let w : ⊥ = omega (arith, below, z, r.top, top_at leads p) in absurd w))
+
+    put : Put 16 set₀ p set₀
+    put i b = at (eqb i p) refl
       where
-        p : ℕ
-        p = get_or ps t 0
-
-        l : List ℕ
-        l = runnable core ps ms p line
-
-        old : lead_in (numbers ns) (l ++ (t ∷ [])) ≡ lead_in (numbers ns) l
-        old = lead_more (numbers ns) l t
-            ∙ ap (λ (z : Bool). cond z (record { top = get_or ns t 0 + 1; first = t }) (lead_in (numbers ns) l)) (le-ltb (level_of (numbers ns) l) (get_or ns t 0 + 1) (rw (← (k.right p low).top) h))
-
-        at : (q : ℕ) → q < 16 → Dec (p ≡ q) → RightAt core ps ns ms (line ++ (t ∷ [])) tops firsts set' q
-        at q b (yes e) =
-            subst (λ (j : ℕ). RightAt core ps ns ms (line ++ (t ∷ [])) tops firsts set' j) e
-            (subst (λ (m : List ℕ). Right (numbers ns) m tops firsts set' p) (sym (grown line)) (record {
-              top = (k.right p low).top ∙ sym (ap (λ (x : Lead). x.top) old);
-              thread = (k.right p low).thread ∙ sym (ap (λ (x : Lead). x.first) old);
-              competes = in_set_law ∙ sym (some_there l);
-            }))
-        at q b (no n) =
-            let r = unmoved line q (not_mine q n) (k.right q b) in
-            record { top = r.top; thread = r.thread; competes = others_in q b n ∙ r.competes }
+        at : (z : Bool) → eqb i p ≡ z → in_set set₀ i ≡ (in_set set₀ i || z)
+        at true e = rw (eqb-true i p e, some)
+        at false e = sym (or-false (in_set set₀ i))
 
 -- ---- nobody is queued
-
-zeros_at : (n p v : ℕ) → p < n → get_or (replicate n v) p 0 ≡ v
-zeros_at zero p v h = let w : ⊥ = omega arith in absurd w
-zeros_at (suc n) zero v h = refl
-zeros_at (suc n) (suc p) v h = zeros_at n p v (omega arith)
-
-length_same : (n v : ℕ) → length (replicate n v) ≡ n
-length_same zero v = refl
-length_same (suc n) v = ap suc (length_same n v)
 
 pub kept_none : (core : ℕ) (ps ns ms : List ℕ) → KeptIn core ps ns ms [] (replicate 16 0) (replicate 16 255) 0
 unfolding runnable keep level_of any first
 kept_none core ps ns ms = record {
-  wide = length_same 16 0;
-  long = length_same 16 255;
-  right = λ p b. record { top = zeros_at 16 p 0 b; thread = zeros_at 16 p 255 b; competes = bits.none p };
+  wide = length-replicate {A = ℕ} 16 0;
+  long = length-replicate {A = ℕ} 16 255;
+  right = λ p b. record { top = get_or-replicate {A = ℕ} 16 p 0 0 b; thread = get_or-replicate {A = ℕ} 16 p 255 0 b; competes = bits.none p };
 }
 
 -- ---- a partition is walked anew
@@ -236,11 +239,7 @@ module _ (core : ℕ) (ps ns ms line tops firsts : List ℕ) (set₀ left : ℕ)
           ∙ ap (λ (y : Lead). not (eqb y.top 0)) e ∙ level_any (numbers ns) (runnable core ps ms p line)
 
       left_of_law : (q : ℕ) → q < 16 → q ≢ p → in_set next q ≡ in_set left q
-      left_of_law q b n = t q b ∙ ap (λ (z : Bool). in_set left q && not z) (ne_eqb q p n) ∙ and_yes (in_set left q)
-        where
-          and_yes : (z : Bool) → (z && true) ≡ z
-          and_yes true = refl
-          and_yes false = refl
+      left_of_law q b n = t q b ∙ ap (λ (z : Bool). in_set left q && not z) (ne_eqb q p n) ∙ and-true (in_set left q)
 
       at : (q : ℕ) → q < 16 → in_set next q ≡ false → Dec (q ≡ p) → RightAt core ps ns ms line (set tops p x.top) (set firsts p x.first) set' q
       at q b f (yes w) =
@@ -254,37 +253,41 @@ module _ (core : ℕ) (ps ns ms line tops firsts : List ℕ) (set₀ left : ℕ)
       low q b f (yes w) = clash f (ap (λ (j : ℕ). in_set next j) w ∙ t p l.inside ∙ ap (λ (z : Bool). in_set left p && not z) (eq-eqb p p refl) ∙ and-false (in_set left p))
       low q b f (no n) = rw (get_or-set_other tops p q x.top 0 n) (s.below q b (sym (left_of_law q b n) ∙ f))
 
--- the walk of one partition, along the queue
-module _ (core : ℕ) (ps ns ms q : List ℕ) (p : ℕ) where
-  abbrev walked : ℕ → Lead
-  walked i = lead_in (numbers ns) (runnable core ps ms p (take i q))
+-- the walk of one partition, along the line: of it some threads were seen
+module _ (core : ℕ) (ps ns ms : List ℕ) (p : ℕ) where
+  abbrev walked : List ℕ → Lead
+  walked seen = lead_in (numbers ns) (runnable core ps ms p seen)
 
-  pub walk_none : ◌≡◌ {A = Lead} (record { top = 0; first = 255 }) (walked 0)
+  pub walk_none : ◌≡◌ {A = Lead} (record { top = 0; first = 255 }) (walked [])
   unfolding runnable keep level_of any first
   walk_none = refl
 
-  pub walk_past : (i : ℕ) (x : Lead) → i < length q → may_run (get_or ps (get_or q i 0) 0) (get_or ms (get_or q i 0) 0) p core ≡ false → x ≡ walked i → x ≡ walked (i + 1)
-  walk_past i x h e f = f ∙ ap (lead_in (numbers ns)) (sym (runnable_past core ps ms p q i h e))
+  pub walk_past : (seen : List ℕ) (t : ℕ) (x : Lead) → may_run (get_or ps t 0) (get_or ms t 0) p core ≡ false → x ≡ walked seen → x ≡ walked (seen ++ (t ∷ []))
+  walk_past seen t x e f = f ∙ ap (lead_in (numbers ns)) (sym (runnable_out core ps ms p seen t e))
 
-  pub walk_here : (i : ℕ) (x y : Lead) → i < length q → may_run (get_or ps (get_or q i 0) 0) (get_or ms (get_or q i 0) 0) p core ≡ true → x ≡ walked i
-      → y ≡ raised_by x (get_or ns (get_or q i 0) 0) (get_or q i 0) → y ≡ walked (i + 1)
-  walk_here i x y h e f g =
-      g ∙ ap (λ (z : Lead). raised_by z (get_or ns (get_or q i 0) 0) (get_or q i 0)) f ∙ sym (lead_more (numbers ns) (runnable core ps ms p (take i q)) (get_or q i 0))
-      ∙ ap (lead_in (numbers ns)) (sym (runnable_here core ps ms p q i h e))
+  pub walk_here : (seen : List ℕ) (t : ℕ) (x y : Lead) → may_run (get_or ps t 0) (get_or ms t 0) p core ≡ true → x ≡ walked seen
+      → y ≡ raised_by x (get_or ns t 0) t → y ≡ walked (seen ++ (t ∷ []))
+  walk_here seen t x y e f g =
+      g ∙ ap (λ (z : Lead). raised_by z (get_or ns t 0) t) f ∙ sym (lead_more (numbers ns) (runnable core ps ms p seen) t)
+      ∙ ap (lead_in (numbers ns)) (sym (runnable_in core ps ms p seen t e))
 
   -- no later thread is above the number that is reached
-  pub walk_stop : (i n c : ℕ) (x : Lead) → i ≤ n → x ≡ walked i → x.top ≡ c → level_of (numbers ns) (runnable core ps ms p (take n q)) ≤ c → x ≡ walked n
-  walk_stop i n c x h e f low =
-      let sum : n ≡ i + (n - i) = omega arith in
-      let whole : take n q ≡ take i q ++ take (n - i) (drop i q) = ap (λ (k : ℕ). take k q) sum ∙ take-add i (n - i) q in
-      let split : runnable core ps ms p (take n q) ≡ runnable core ps ms p (take i q) ++ runnable core ps ms p (take (n - i) (drop i q)) =
-      ap (runnable core ps ms p) whole ∙ runnable_join core ps ms p (take i q) (take (n - i) (drop i q)) in
-      let top : level_of (numbers ns) (runnable core ps ms p (take i q)) ≡ c = sym (ap (λ (z : Lead). z.top) e) ∙ f in
-      e ∙ sym (ap (lead_in (numbers ns)) split ∙ lead_stop (numbers ns) (runnable core ps ms p (take i q)) (runnable core ps ms p (take (n - i) (drop i q)))
-      (rw (top, ← split) low))
+  pub walk_stop : (seen rest : List ℕ) (c : ℕ) (x : Lead) → x ≡ walked seen → x.top ≡ c → level_of (numbers ns) (runnable core ps ms p (seen ++ rest)) ≤ c
+      → x ≡ walked (seen ++ rest)
+  walk_stop seen rest c x e f low =
+      let split : runnable core ps ms p (seen ++ rest) ≡ runnable core ps ms p seen ++ runnable core ps ms p rest = runnable_join core ps ms p seen rest in
+      let top : level_of (numbers ns) (runnable core ps ms p seen) ≡ c = sym (ap (λ (z : Lead). z.top) e) ∙ f in
+      e ∙ sym (ap (lead_in (numbers ns)) split ∙ lead_stop (numbers ns) (runnable core ps ms p seen) (runnable core ps ms p rest) (rw (top, ← split) low))
 
-  pub walk_end : (i n : ℕ) (x : Lead) → i ≤ n → n ≤ i → x ≡ walked i → x ≡ walked n
-  walk_end i n x h k e = let s : i ≡ n = omega arith in e ∙ ap walked s
+-- what is seen next is a thread's number
+pub next_inside : (ps q : List ℕ) (queued core : ℕ) → Lined ps q queued core → (seen left rest : List ℕ) (t : ℕ) → seen ++ left ≡ take queued q → left ≡ t ∷ rest
+    → t < 64
+next_inside ps q queued core h seen left rest t e f =
+    let g : seen ++ (t ∷ rest) ≡ take queued q = ap (λ (l : List ℕ). seen ++ l) (sym f) ∙ e in
+    let n : length seen < queued = omega (arith, ap length g, length-append seen (t ∷ rest), length-take queued q) in
+    let s : get_or q (length seen) 0 ≡ t =
+    sym (get_or-take queued q (length seen) 0 n) ∙ ap (λ (l : List ℕ). get_or l (length seen) 0) (sym g) ∙ get_or-append_seam seen t rest 0 in
+    subst (λ (x : ℕ). x < 64) s (h.entries (length seen) n)
 
 -- ---- a thread left
 

@@ -1,4 +1,5 @@
 pub mod NarrowingLaws
+pub mod LeadsArray
 pub mod LeadsKept
 pub mod ListLeads
 pub mod LeadsLaws

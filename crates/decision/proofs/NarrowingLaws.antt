@@ -8,6 +8,7 @@ use lib.ListN.{get_or}
 use lib.Dec.{eqb}
 use native.Mathlib.Decide.{ℕ_discrete}
 use borrow.Author.Tests.{eq-eqb, ne_eqb, eqb-true}
+use Rattle.std.proofs.lemmas.Bool.{or_right}
 use Rattle.lists.proofs.Tests.{clash, both}
 use Rattle.sets.specs.Bits.{in_set, Put, TakenOut, Only, Lowest}
 use lib.Bits.{bit_and}
@@ -167,11 +168,7 @@ module _ (R : ℕ → ℕ → Comparison) (o : Ordered R) where
             go false e = refl
 
         past : (i : ℕ) → i < 16 → in_set w i ≡ true → in_set set i ≡ false → (i ≡ q) ⊎ (in_set left i ≡ false) → R b i ≡ Better
-        past i c g m (inl x) = clash (s i c ∙ both (in_set kept i) (eq-eqb i q x)) m
-          where
-            both : (z : Bool) {y : Bool} → y ≡ true → (z || y) ≡ true
-            both true e = refl
-            both false e = e
+        past i c g m (inl x) = clash (s i c ∙ or_right (in_set kept i) (eqb i q) (eq-eqb i q x)) m
         past i c g m (inr k) = h.behind i c g k (out i c m)
 
     step_behind : R q b ≡ Worse → Passed R w next kept b

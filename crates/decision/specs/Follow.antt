@@ -9,7 +9,10 @@ use Rattle.model.specs.Arrays.{Columns, columns, Regular, threads_in, state_of}
 use Rattle.model.specs.declared.Clock.{Clock}
 use Rattle.event.specs.Kinds.{kind_number}
 use Rattle.event.specs.declared.kinds.Action.{Action}
+use Rattle.decision.specs.Leads.{tops_of, firsts_of}
 use Rattle.decision.specs.Keeping.{KeptIn, Lined, Left, Changed}
+use Rattle.decision.specs.declared.leads.Lead.{Lead}
+use Rattle.decision.specs.declared.leads.ReadyQueue.{ReadyQueue}
 
 -- a state as it stands in the arrays
 pub record Before : Type 0 where
@@ -61,3 +64,17 @@ pub record FollowedTurn (core : ℕ) (partitions priorities masks queue : List �
   pub home : ended ≡ true → get_or partitions t 0 < 16
   pub walkable : ended ≡ true → Lined partitions queue queued core
   pub moved : ended ≡ true → Left core partitions priorities masks (take queued queue) tops firsts set (get_or partitions t 0) t
+
+-- ---- the same over the leads as they are kept, and the queue with its threads as it is lent
+
+abbrev pub FollowedOf : List ℕ → ReadyQueue → List Lead → ℕ → Action → ℕ → ℕ → Type 0
+FollowedOf ready q leads set action t p =
+    Followed q.core ready q.partitions.now q.priorities.now q.masks.now q.queue.now q.queued (tops_of leads) (firsts_of leads) set action t p
+
+abbrev pub FollowedPriorityOf : List ℕ → ReadyQueue → List Lead → ℕ → ℕ → Type 0
+FollowedPriorityOf ready q leads set t =
+    FollowedPriority q.core ready q.partitions.now q.priorities.now q.masks.now q.queue.now q.queued (tops_of leads) (firsts_of leads) set t
+
+abbrev pub FollowedTurnOf : ReadyQueue → List Lead → ℕ → ℕ → Bool → Type 0
+FollowedTurnOf q leads set t ended =
+    FollowedTurn q.core q.partitions.now q.priorities.now q.masks.now q.queue.now q.queued (tops_of leads) (firsts_of leads) set t ended

@@ -1,9 +1,11 @@
 -- The invariant of the leads, over the arrays that stand for the threads and the line of queued threads; what holds of it while it is restored.
-use Rattle.std.specs.Prelude.{◌≢◌, ◌≡◌, ℕ, ◌≤◌, ◌<◌, true, false, List, [], ◌∷◌, ◌++◌, length, get_or}
+use Rattle.std.specs.Prelude.{◌≢◌, ◌≡◌, ℕ, ◌≤◌, ◌<◌, true, false, List, [], ◌∷◌, ◌++◌, length, get_or, take}
 use Rattle.lists.specs.Lists.{member}
 use Rattle.sets.specs.Bits.{in_set}
 use Rattle.model.specs.Step.{requeued}
-use Rattle.decision.specs.Leads.{lead_of, any_of, level_of, numbers, runnable}
+use Rattle.decision.specs.Leads.{lead_of, any_of, level_of, tops_of, firsts_of, numbers, runnable}
+use Rattle.decision.specs.declared.leads.Lead.{Lead}
+use Rattle.decision.specs.declared.leads.ReadyQueue.{ReadyQueue}
 
 -- the numbers at p are the lead of the threads l with the priorities f
 pub record Right (f : ℕ → ℕ) (l tops firsts : List ℕ) (set p : ℕ) : Type 0 where
@@ -59,3 +61,24 @@ pub record Lined (partitions queue : List ℕ) (queued core : ℕ) : Type 0 wher
 abbrev pub Joins : ℕ → List ℕ → List ℕ → List ℕ → ℕ → List ℕ → List ℕ → ℕ → List ℕ → List ℕ → ℕ → Type 0
 Joins core partitions priorities masks t tops firsts set tops' firsts' set' =
     (line : List ℕ) → KeptIn core partitions priorities masks line tops firsts set → KeptIn core partitions priorities masks (line ++ (t ∷ [])) tops' firsts' set'
+
+-- ---- the same over the leads as they are kept, and the queue with its threads as it is lent
+
+abbrev pub KeptOf : ReadyQueue → List Lead → ℕ → Type 0
+KeptOf q leads set = KeptIn q.core q.partitions.now q.priorities.now q.masks.now (take q.queued q.queue.now) (tops_of leads) (firsts_of leads) set
+
+abbrev pub StaleOf : ReadyQueue → List Lead → ℕ → ℕ → Type 0
+StaleOf q leads set stale = Stale q.core q.partitions.now q.priorities.now q.masks.now (take q.queued q.queue.now) (tops_of leads) (firsts_of leads) set stale
+
+abbrev pub LeftOf : ReadyQueue → List Lead → ℕ → ℕ → ℕ → Type 0
+LeftOf q leads set p t = Left q.core q.partitions.now q.priorities.now q.masks.now (take q.queued q.queue.now) (tops_of leads) (firsts_of leads) set p t
+
+abbrev pub ChangedOf : ReadyQueue → List Lead → ℕ → ℕ → Type 0
+ChangedOf q leads set t = Changed q.core q.partitions.now q.priorities.now q.masks.now (take q.queued q.queue.now) (tops_of leads) (firsts_of leads) set t
+
+abbrev pub LinedOf : ReadyQueue → Type 0
+LinedOf q = Lined q.partitions.now q.queue.now q.queued q.core
+
+abbrev pub JoinsOf : ReadyQueue → ℕ → List Lead → ℕ → List Lead → ℕ → Type 0
+JoinsOf q t leads set leads' set' =
+    Joins q.core q.partitions.now q.priorities.now q.masks.now t (tops_of leads) (firsts_of leads) set (tops_of leads') (firsts_of leads') set'

@@ -27,6 +27,14 @@ lead_in f l = record { top = level_of f l; first = lead_of f l }
 unfoldable pub raised_by : Lead → ℕ → ℕ → Lead
 raised_by old priority t = cond (ltb old.top (priority + 1)) (record { top = priority + 1; first = t }) old
 
+-- ---- as the partitions' leads are kept, one after the other
+
+abbrev pub tops_of : List Lead → List ℕ
+tops_of leads = map (λ x. x.top) leads
+
+abbrev pub firsts_of : List Lead → List ℕ
+firsts_of leads = map (λ x. x.first) leads
+
 -- ---- in arrays of a number for each thread
 
 abbrev pub numbers : List ℕ → ℕ → ℕ

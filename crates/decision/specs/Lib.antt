@@ -1,5 +1,6 @@
 pub mod Narrowing
 pub mod Leads
+pub mod Seen
 pub mod Keeping
 pub mod Orders
 pub mod Decides

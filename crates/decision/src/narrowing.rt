@@ -2,78 +2,120 @@
 // and gives those of it that none is better than; nothing here knows of modes, and those that are equal stay in the set.
 ghost use Rattle.std.specs.Prelude.{◌≢◌, ◌≡◌, ℕ, ◌<◌, get_or};
 ghost use Rattle.units.specs.Units.{compare_numbers};
+ghost use Rattle.units.specs.declared.Comparison.{Comparison};
+ghost use Rattle.model.specs.Choices.{Ordered};
+ghost use Rattle.model.proofs.Order.{by_key, by_fractions};
+ghost use Rattle.decision.specs.Leads.{tops_of};
 ghost use Rattle.decision.specs.Narrowing.{Narrowed, OneMore, on_set, on_priority, on_fraction, fraction, compared_fractions};
 
+use crate::leads::Lead;
+use sets::Members;
 use units::{Comparison, Cycles, Fraction};
 
-// Partitions that are level, and their top priority.
-#[derive(Clone, Copy)]
-pub struct Peak {
-    pub kept: u16,
-    pub top: u16,
+// What partitions are compared by.
+trait Rank: Copy {
+    // What the first is against the second.
+    ghost against: { Self → Self → Comparison };
+
+    fn compare(self, other: Self) -> Comparison
+        ensures { result ≡ against self other };
+
+    // The partitions that have such values stand in an order.
+    ghost ordered: { (value : ℕ → Self) → Ordered (λ p q. against (value p) (value q)) };
 }
 
-// Partitions that are level, and the fraction that they have used.
+// A top priority: the larger one is better.
 #[derive(Clone, Copy)]
-pub struct Front {
-    pub kept: u16,
-    pub fraction: Fraction,
+struct Top(u16);
+
+impl Rank for Top {
+    ghost against = { λ a b. compare_numbers a.0 b.0 };
+
+    ghost ordered = { λ value. by_key (λ p. (value p).0) };
+
+    #[tactic(auto, unfolding(units::specs::Units::compare_numbers))]
+    fn compare(self, other: Top) -> Comparison {
+        if self.0 > other.0 {
+            Comparison::Better
+        } else if self.0 < other.0 {
+            Comparison::Worse
+        } else {
+            Comparison::Equal
+        }
+    }
+}
+
+// The smaller fraction is better.
+impl Rank for Fraction {
+    ghost against = { compared_fractions };
+
+    ghost ordered = { λ value. by_fractions (λ p. (value p).used.0) (λ p. (value p).budget.0) };
+
+    fn compare(self, other: Fraction) -> Comparison {
+        units::compare_fractions(self, other)
+    }
+}
+
+// Partitions that are level, and the value that they have.
+#[derive(Clone, Copy)]
+struct Level<V> {
+    kept: u16,
+    value: V,
+}
+
+impl<V: Rank> Level<V> {
+    // After one more partition.
+    fn with(self, p: u8, value: V) -> Level<V>
+        requires { p < 16 }
+        ensures { OneMore V (V.against value self.value) self.value value self.kept p result.value result.kept }
+    {
+        match value.compare(self.value) {
+            Comparison::Better => Level {
+                kept: sets::only(p),
+                value,
+            },
+            Comparison::Worse => self,
+            Comparison::Equal => Level {
+                kept: sets::put(self.kept, p),
+                ..self
+            },
+        }
+    }
+}
+
+// Those of a set whose value is best.
+fn best<V: Rank, F: Fn(u8) -> V>(among: u16, value: F) -> u16
+    requires some { among ≢ 0 }
+    requires known { (p : ℕ) → p < 16 → F.pre value p }
+    ensures { (of : ℕ → V) → ((p : ℕ) (v : V) → p < 16 → F.post value p v → v ≡ of p) → Narrowed (λ p q. V.against (of p) (of q)) among result }
+{
+    let p = sets::lowest(among);
+    let mut level = Level {
+        kept: sets::only(p),
+        value: value(p),
+    };
+    for q in Members(sets::rest(among)) {
+        level = level.with(q, value(q));
+    }
+    level.kept
 }
 
 // Those of a set that are in another one, if there are such; otherwise all are level.
+#[tactic(auto, using(crate::proofs::NarrowingLaws::preferred_none, crate::proofs::NarrowingLaws::preferred_some))]
 pub fn preferred(among: u16, set: u16) -> u16
     requires { among ≢ 0 }
     ensures { Narrowed (on_set set) among result }
 {
     let both = among & set;
-    if both == 0 {
-        return among;
-    }
-    both
-}
-
-// The partitions of the top priority after one more.
-fn raise(k: Peak, p: u8, top: u16) -> Peak
-    requires { p < 16 }
-    ensures { OneMore ℕ (compare_numbers top k.top) k.top top k.kept p result.top result.kept }
-{
-    if k.top < top {
-        return Peak {
-            kept: sets::only(p),
-            top: top,
-        };
-    }
-    if top < k.top {
-        return k;
-    }
-    Peak {
-        kept: sets::put(k.kept, p),
-        top: k.top,
-    }
+    if both == 0 { among } else { both }
 }
 
 // Those of a set whose top priority is highest.
-pub fn highest(tops: &[u16; 16], among: u16) -> u16
+pub fn highest(leads: &[Lead; 16], among: u16) -> u16
     requires { among ≢ 0 }
-    ensures { Narrowed (on_priority tops.now) among result }
+    ensures { Narrowed (on_priority (tops_of leads.now)) among result }
 {
-    let p = sets::lowest(among);
-    let at = p as usize;
-    let kept = sets::only(p);
-    let top = tops[at];
-    let mut peak = Peak {
-        kept: kept,
-        top: top,
-    };
-    let mut left = sets::rest(among);
-    while left != 0 {
-        let q = sets::lowest(left);
-        left = sets::rest(left);
-        let here = q as usize;
-        let level = tops[here];
-        peak = raise(peak, q, level);
-    }
-    peak.kept
+    best(among, |p| Top(leads[p as usize].top))
 }
 
 // What a partition has used of its budget.
@@ -82,31 +124,9 @@ fn fraction_at(used: &[u32; 16], budgets: &[u32; 16], p: u8) -> Fraction
     ensures { result ≡ fraction (get_or used.now p 0) (get_or budgets.now p 0) }
 {
     let at = p as usize;
-    let u = used[at];
-    let b = budgets[at];
     Fraction {
-        used: Cycles(u),
-        budget: Cycles(b),
-    }
-}
-
-// The partitions of the smallest fraction after one more.
-fn lower(k: Front, p: u8, x: Fraction) -> Front
-    requires { p < 16 }
-    ensures { OneMore Fraction (compared_fractions x k.fraction) k.fraction x k.kept p result.fraction result.kept }
-{
-    let best = k.fraction;
-    let against = units::compare_fractions(x, best);
-    match against {
-        Comparison::Better => Front {
-            kept: sets::only(p),
-            fraction: x,
-        },
-        Comparison::Worse => k,
-        Comparison::Equal => Front {
-            kept: sets::put(k.kept, p),
-            fraction: best,
-        },
+        used: Cycles(used[at]),
+        budget: Cycles(budgets[at]),
     }
 }
 
@@ -115,19 +135,5 @@ pub fn smallest(used: &[u32; 16], budgets: &[u32; 16], among: u16) -> u16
     requires { among ≢ 0 }
     ensures { Narrowed (on_fraction used.now budgets.now) among result }
 {
-    let p = sets::lowest(among);
-    let kept = sets::only(p);
-    let x = fraction_at(used, budgets, p);
-    let mut front = Front {
-        kept: kept,
-        fraction: x,
-    };
-    let mut left = sets::rest(among);
-    while left != 0 {
-        let q = sets::lowest(left);
-        left = sets::rest(left);
-        let y = fraction_at(used, budgets, q);
-        front = lower(front, q, y);
-    }
-    front.kept
+    best(among, |p| fraction_at(used, budgets, p))
 }

@@ -1,152 +1,198 @@
--- What is lent and the settings and the clock that were read from it: the doors' answers over what is lent.
+-- What is lent, and the settings and the clock that were read from it: the doors' answers over what is lent.
 use mathlib.Core.Logic.{◌≢◌}
 use mathlib.Core.Path.{◌≡◌, refl, sym, ap, subst, ◌∙◌}
-use Prim.Native.Nat.{ℕ}
-use mathlib.Core.List.{List}
-use lib.ListN.{length}
-use native.Mathlib.Decide.{ℕ_discrete}
+use Prim.Native.Nat.{ℕ, ◌+◌, ◌*◌, ◌/◌, min}
+use Rattle.std.specs.Int.{div_ceil}
+use mathlib.Core.Bool.{false}
+use mathlib.Core.List.{List, ◌++◌}
+use lib.Dec.{eqb}
+use lib.ListN.{length, drop}
+use Rattle.std.specs.Prelude.{Result, Ok, Err}
 use Rattle.refusals.specs.Refusals.{number_of, outcome_of}
 use Rattle.refusals.specs.declared.Refusal.{Refusal}
-use Rattle.refusals.specs.declared.Outcome.{Outcome}
-use Rattle.refusals.specs.declared.Outcome.TheVariants as outcome
 use Rattle.refusals.proofs.Laws.{never_zero}
 use Rattle.lists.proofs.Tables.{table_length}
+use Rattle.lists.proofs.Tests.{clash}
 use Rattle.sheet.specs.declared.Settings.{Settings}
 use Rattle.model.specs.Answers.{Line, line_of, answer_line}
 use Rattle.model.specs.Arrays.{Columns, Sized, state_of}
-use Rattle.model.specs.Doors.{answer_to, after_run, lines_after}
-use Rattle.model.specs.Lent.{Lent, lent, settings_from, clock_from, lent_settings, lent_clock, saved_in, refused_arrays, refused_in}
-use Rattle.model.specs.Step.{saved, Answer, answer, nothing}
+use Rattle.model.specs.Doors.{answer_to, after_run, lines_after, taken_by}
+use Rattle.model.specs.Lent.{Lent, lent, lent_settings, lent_clock, words_of, saved_in, refused_arrays, refused_in}
+use Rattle.model.specs.Run.{run, after}
+use Rattle.model.specs.Step.{Saved, saved, Answer, answer, nothing}
+use Rattle.model.specs.Stream.{event_count, events_in, lines_of}
 use Rattle.model.specs.declared.Clock.{Clock}
-use Rattle.model.specs.declared.Verdict.{Verdict}
-use Rattle.model.specs.declared.Verdict.TheVariants as verdict
-use Rattle.scheduler.specs.Stepping.{Same}
-use Rattle.doors.specs.Doors.{Sizes, Begun, Answered, Ran}
-use Rattle.doors.specs.Inner.{Room, ClockStored, Entered, Finished}
+use Rattle.model.specs.declared.Decision.{Decision}
+use Rattle.decision.specs.declared.kept.Sets.{Sets}
+use Rattle.scheduler.specs.Stepping.{StepAnswered, Same, Still}
+use Rattle.scheduler.proofs.SchedulerLaws.{taken_arrays}
+use Rattle.doors.specs.Doors.{Sizes, Answered, Ran}
+use Rattle.doors.specs.Inner.{Room, OpenedFrom, opened_from}
+use Rattle.doors.specs.declared.opening.Opened.{Opened}
 
-pub room : (c : Settings) (a b u : List ℕ) (ts : Columns) (q : List ℕ) → c ≡ settings_from a b → length u ≡ 16 → length q ≡ 64 → Sized ts → Room c u ts q
-room c a b u ts q i wide full sized = record {
-  sixteen = wide;
-  shares = ap (λ (z : Settings). length z.shares) i ∙ table_length _ 16;
-  sizes = sized;
-  full = full;
-}
+-- no refusal has the number 0
+pub not_zero : (r : Refusal) → number_of r ≢ 0
+not_zero r z = let w : eqb 0 0 ≡ false = rw z at (never_zero r) in clash refl w
 
--- ---- the answers by the model's
+-- ---- settings and clock were read from what is lent, and it was tested
+
+module _ (x : Lent) (c : Settings) (k : Clock) (ec : c ≡ lent_settings x) (ek : k ≡ lent_clock x) (sixteen : length x.used ≡ 16) (sizes : Sized x.threads) (full : length x.queue ≡ 64) where
+  number : (n : ℕ) → n ≡ refused_arrays c x.used k x.threads x.queue x.history → n ≡ refused_in x
+  number n f =
+      f ∙ ap (λ (a : Settings). refused_arrays a x.used k x.threads x.queue x.history) ec
+      ∙ ap (λ (j : Clock). refused_arrays (lent_settings x) x.used j x.threads x.queue x.history) ek
+
+  room : Room (lent_settings x) x.used x.threads x.queue
+  room = record { sixteen = sixteen; shares = table_length _ 16; sizes = sizes; full = full }
+
+  pub opened_no : (o : Result Opened Refusal) (r : Refusal) → o ≡ Err r → number_of r ≡ refused_arrays c x.used k x.threads x.queue x.history → OpenedFrom x o
+  opened_no o r e f = record {
+    refusal = ap outcome_of e ∙ number (number_of r) f;
+    opened = λ i g. let z : Err r ≡ Ok i = sym e ∙ g in cc;
+    room = room;
+  }
+
+  pub opened_yes : 0 ≡ refused_arrays c x.used k x.threads x.queue x.history → OpenedFrom x (Ok (record { settings = c; clock = k }))
+  opened_yes f = record {
+    refusal = number 0 f;
+    opened = λ i g. let z : i ≡ record { settings = c; clock = k } = cc in z ∙ (λ j. record { settings = ec j; clock = ek j });
+    room = room;
+  }
 
 module _ (x : Lent) where
+  -- ---- the answers by the model's
+
   answer_yes : (b : List ℕ) → refused_in x ≡ 0 → answer_to x b ≡ answer (saved_in x) b
   unfolding answer_to
   answer_yes b z = rw z
 
-  answer_no : (b : List ℕ) (o : Refusal) → refused_in x ≡ number_of o → answer_to x b ≡ record { refusal = number_of o; decision = nothing; after = saved_in x }
+  answer_no : (b : List ℕ) (r : Refusal) → refused_in x ≡ number_of r → answer_to x b ≡ record { refusal = number_of r; decision = nothing; after = saved_in x }
   unfolding answer_to
-  answer_no b o z = rw (z, never_zero o)
+  answer_no b r z = rw (z, never_zero r)
 
--- ---- a door that read c and k from x
+  -- ---- what was opened
 
-module _ (x : Lent) (c : Settings) (k : Clock) (ec : c ≡ lent_settings x) (ek : k ≡ lent_clock x) where
-  -- what is known of c and k is known of x
-  pub as_lent : (P : Settings → Clock → Type 0) → P c k → P (lent_settings x) (lent_clock x)
-  as_lent P f = subst (P (lent_settings x)) ek (subst (λ (i : Settings). P i k) ec f)
+  pub lengths : (o : Result Opened Refusal) → OpenedFrom x o → Sizes x
+  lengths o f = record { used = f.room.sixteen; queue = f.room.full }
 
-  abbrev pub Number : ℕ → Settings → Clock → Type 0
-  Number i a b = i ≡ refused_arrays a x.used b x.threads x.queue x.history
+  pub refused : (o : Result Opened Refusal) (r : Refusal) → OpenedFrom x o → o ≡ Err r → refused_in x ≡ number_of r
+  refused o r f e = sym f.refusal ∙ ap outcome_of e
 
-  pub number : (o : Outcome) → Number (outcome_of o) c k → outcome_of o ≡ refused_in x
-  number o f = as_lent (Number (outcome_of o)) f
+  pub taken : (o : Result Opened Refusal) (i : Opened) → OpenedFrom x o → o ≡ Ok i → refused_in x ≡ 0
+  taken o i f e = sym f.refusal ∙ ap outcome_of e
 
-  -- ---- the event door
+  -- ---- what is refused
 
-  pub answered_no : Sizes x → (b : List ℕ) (o : Outcome) (r : Refusal) → o ≡ outcome.Refused r → Number (outcome_of o) c k → Answered x b (line_of (verdict.Refused r)) x
-  answered_no sizes b o r f i =
-      let z : refused_in x ≡ number_of r = sym (number o i) ∙ ap outcome_of f in
+  pub answered_no : (o : Result Opened Refusal) (r : Refusal) → OpenedFrom x o → o ≡ Err r → (b : List ℕ) → Answered x b (line_of (Err r)) x
+  answered_no o r f e b =
+      let z = refused o r f e in
       record {
-        line = sym (ap answer_line (answer_no x b r z));
-        after = sym (ap (λ (y : Answer). y.after) (answer_no x b r z));
+        line = sym (ap answer_line (answer_no b r z));
+        after = sym (ap (λ (y : Answer). y.after) (answer_no b r z));
         taken = λ w. w;
         still = λ _. refl;
-        sizes = sizes;
+        sizes = lengths o f;
       }
 
-  module _ (u' : List ℕ) (k' : Clock) (ts' : Columns) (q' h' clock' : List ℕ) where
-    abbrev y : Lent
-    y = lent x.settings x.shares u' clock' ts' q' h'
-
-    abbrev Inside : List ℕ → Verdict → Settings → Clock → Type 0
-    Inside b w a j = Entered a x.used j x.threads x.queue x.history b w u' k' ts' q' h'
-
-    pub answered_yes : Sizes x → (b : List ℕ) (o : Outcome) (w : Verdict) (refusal : ℕ) → o ≡ outcome.Accepted → Number (outcome_of o) c k
-        → refusal ≡ (line_of w).refusal → Inside b w c k → ClockStored x.clock refusal k' clock' → Answered x b (line_of w) y
-    answered_yes sizes b o w refusal f i g d₀ kept = record {
-      line = d.line ∙ sym (ap answer_line (answer_yes x b z));
-      after = ap (λ (j : Clock). saved (state_of (lent_settings x) u' j ts' q') h') clock_is ∙ d.after ∙ sym (ap (λ (a : Answer). a.after) (answer_yes x b z));
-      taken = λ _. ap (λ (j : Clock). refused_arrays (lent_settings x) u' j ts' q' h') clock_is ∙ d.taken;
-      still = λ j. whole_same (λ l. j (ap (λ (a : Answer). a.refusal) (answer_yes x b z) ∙ sym is ∙ l)) (d.still (λ l. j (ap (λ (a : Answer). a.refusal) (answer_yes x b z) ∙ l)));
-      sizes = sizes;
-    }
-      where
-        z : refused_in x ≡ 0
-        z = sym (number o i) ∙ ap outcome_of f
-
-        d : Inside b w (lent_settings x) (lent_clock x)
-        d = as_lent (Inside b w) d₀
-
-        is : refusal ≡ (answer (saved_in x) b).refusal
-        is = g ∙ ap (λ (l : Line). l.refusal) d.line
-
-        clock_is : clock_from clock' ≡ k'
-        clock_is = go (ℕ_discrete refusal 0)
-          where
-            go : Dec (refusal ≡ 0) → clock_from clock' ≡ k'
-            go (yes j) = kept.taken j
-            go (no j) = ap clock_from (kept.still j) ∙ sym (d.still (λ l. j (is ∙ l))).clock
-
-        whole_same : refusal ≢ 0 → Same x.used (lent_clock x) x.threads x.queue x.history u' k' ts' q' h' → y ≡ x
-        whole_same j s = λ i.
-            lent x.settings x.shares (s.totals i) (kept.still j i) (s.threads i) (s.queue i) (s.history i)
-
-    -- ---- the run door
-
-    abbrev Throughout : List ℕ → List ℕ → List ℕ → Settings → Clock → Type 0
-    Throughout events lines lines' a j = Finished a x.used j x.threads x.queue x.history events lines u' k' ts' q' h' lines'
-
-    pub ran_yes : Sizes x → (events lines lines' : List ℕ) (o : Outcome) → o ≡ outcome.Accepted → Number (outcome_of o) c k
-        → Throughout events lines lines' c k → ClockStored x.clock 0 k' clock' → Ran x events lines (outcome_of o) y lines'
-    unfolding after_run lines_after
-    ran_yes sizes events lines lines' o f i d₀ kept =
-        let z : refused_in x ≡ 0 = sym (number o i) ∙ ap outcome_of f in
-        let d : Throughout events lines lines' (lent_settings x) (lent_clock x) = as_lent (Throughout events lines lines') d₀ in
-        let clock_is : clock_from clock' ≡ k' = kept.taken refl in
-        record {
-          refusal = number o i;
-          after = rw z (ap (λ (j : Clock). saved (state_of (lent_settings x) u' j ts' q') h') clock_is ∙ d.after);
-          written = rw z d.written;
-          taken = λ _. ap (λ (j : Clock). refused_arrays (lent_settings x) u' j ts' q' h') clock_is ∙ d.taken;
-          still = λ j. absurd (j z);
-          sizes = sizes;
-        }
-
-  pub ran_no : Sizes x → (events lines : List ℕ) (o : Outcome) (r : Refusal) → o ≡ outcome.Refused r → Number (outcome_of o) c k → Ran x events lines (outcome_of o) x lines
+  pub ran_no : (o : Result Opened Refusal) (r : Refusal) → OpenedFrom x o → o ≡ Err r → (events lines : List ℕ) → Ran x events lines (number_of r) x lines
   unfolding after_run lines_after
-  ran_no sizes events lines o r f i =
-      let z : refused_in x ≡ number_of r = sym (number o i) ∙ ap outcome_of f in
+  ran_no o r f e events lines =
+      let z = refused o r f e in
       record {
-        refusal = number o i;
+        refusal = sym z;
         after = rw (z, never_zero r);
         written = rw (z, never_zero r);
         taken = λ w. w;
         still = λ _. refl;
-        sizes = sizes;
+        sizes = lengths o f;
       }
 
--- ---- the same answers as numbers
+  -- ---- what is not refused: u' to h' are left, and the clock k'
+
+  module _ (o : Result Opened Refusal) (i : Opened) (f : OpenedFrom x o) (e : o ≡ Ok i) (u' : List ℕ) (k' : Clock) (ts' : Columns) (q' h' : List ℕ) where
+    abbrev before : Opened → Saved
+    before j = saved (state_of j.settings x.used j.clock x.threads x.queue) x.history
+
+    -- with the clock's words k
+    abbrev left : List ℕ → Lent
+    left k = lent x.settings x.shares u' k ts' q' h'
+
+    is_read : i ≡ opened_from x
+    is_read = f.opened i e
+
+    fine : refused_in x ≡ 0
+    fine = taken o i f e
+
+    -- ---- the event door
+
+    module _ (b : List ℕ) (w : Result Decision Refusal) (budgets tops firsts : List ℕ) (sets : Sets) (favoured : ℕ)
+        (a : StepAnswered i.settings (before i) b w u' k' ts' q' h' budgets tops firsts sets favoured)
+        (s : Still (before i) b x.used i.clock x.threads x.queue x.history u' k' ts' q' h') where
+      stepped : StepAnswered (lent_settings x) (saved_in x) b w u' k' ts' q' h' budgets tops firsts sets favoured
+      stepped =
+          subst (λ (j : Opened). StepAnswered j.settings (before j) b w u' k' ts' q' h' budgets tops firsts sets favoured) is_read a
+
+      line : line_of w ≡ answer_line (answer_to x b)
+      line = stepped.line ∙ sym (ap answer_line (answer_yes b fine))
+
+      after_it : saved (state_of (lent_settings x) u' k' ts' q') h' ≡ (answer_to x b).after
+      after_it = stepped.after ∙ sym (ap (λ (y : Answer). y.after) (answer_yes b fine))
+
+      sound_after : refused_arrays (lent_settings x) u' k' ts' q' h' ≡ 0
+      sound_after = taken_arrays stepped.whole
+
+      -- the event was accepted, and the clock is stored
+      pub answered_yes : (d : Decision) → w ≡ Ok d → (k : List ℕ) → k ≡ words_of k' → Answered x b (line_of (Ok d)) (left k)
+      answered_yes d g k is = record {
+        line = ap line_of (sym g) ∙ line;
+        after = ap (λ (n : List ℕ). saved_in (left n)) is ∙ after_it;
+        taken = λ _. ap (λ (n : List ℕ). refused_in (left n)) is ∙ sound_after;
+        still = λ n. absurd (n (sym (ap (λ (l : Line). l.refusal) line) ∙ ap (λ (v : Result Decision Refusal). (line_of v).refusal) g));
+        sizes = lengths o f;
+      }
+
+      -- the event was refused
+      pub answered_refused : (r : Refusal) → w ≡ Err r → Answered x b (line_of (Err r)) (left x.clock)
+      answered_refused r g = record {
+        line = ap line_of (sym g) ∙ line;
+        after = ap (λ (j : Clock). saved (state_of (lent_settings x) u' j ts' q') h') (sym same.clock) ∙ after_it;
+        taken = λ _. ap (λ (j : Clock). refused_arrays (lent_settings x) u' j ts' q' h') (sym same.clock) ∙ sound_after;
+        still = λ _. λ j. lent x.settings x.shares (same.totals j) x.clock (same.threads j) (same.queue j) (same.history j);
+        sizes = lengths o f;
+      }
+        where
+          number : (answer (saved_in x) b).refusal ≡ number_of r
+          number = sym (ap (λ (l : Line). l.refusal) stepped.line) ∙ ap (λ (v : Result Decision Refusal). (line_of v).refusal) g
+
+          still_lent : Still (saved_in x) b x.used (lent_clock x) x.threads x.queue x.history u' k' ts' q' h'
+          still_lent = subst (λ (j : Opened). Still (before j) b x.used j.clock x.threads x.queue x.history u' k' ts' q' h') is_read s
+
+          same : Same x.used (lent_clock x) x.threads x.queue x.history u' k' ts' q' h'
+          same = still_lent (λ z. not_zero r (sym number ∙ z))
+
+    -- ---- the run door
+
+    pub ran_yes : (events lines lines' : List ℕ) (n : ℕ) → saved (state_of i.settings u' k' ts' q') h' ≡ after (before i) (events_in events n)
+        → lines' ≡ lines_of (run (before i) (events_in events n)) ++ drop (12 * n) lines
+        → refused_arrays i.settings u' k' ts' q' h' ≡ 0
+        → n ≡ min (event_count events) (length lines / 12)
+        → (k : List ℕ) → k ≡ words_of k' → Ran x events lines 0 (left k) lines'
+    unfolding after_run lines_after taken_by
+    ran_yes events lines lines' n a l t g k is =
+        let a' = subst (λ (j : Opened). saved (state_of j.settings u' k' ts' q') h' ≡ after (before j) (events_in events n)) is_read a in
+        let l' = subst (λ (j : Opened). lines' ≡ lines_of (run (before j) (events_in events n)) ++ drop (12 * n) lines) is_read l in
+        record {
+          refusal = sym fine;
+          after = rw (fine, ← g) (ap (λ (w : List ℕ). saved_in (left w)) is ∙ a');
+          written = rw (fine, ← g) l';
+          taken = λ _. ap (λ (w : List ℕ). refused_in (left w)) is ∙ subst (λ (j : Opened). refused_arrays j.settings u' k' ts' q' h' ≡ 0) is_read t;
+          still = λ j. absurd (j fine);
+          sizes = lengths o f;
+        }
+
+-- the same answer, told otherwise
+pub answered_as : {x : Lent} {b : List ℕ} {m n : Line} {y : Lent} → m ≡ n → Answered x b n y → Answered x b m y
+answered_as {x} {b} {m} {n} {y} e d = subst (λ (i : Line). Answered x b i y) (sym e) d
 
 pub ran_as : {x : Lent} {events lines : List ℕ} {m n : ℕ} {y : Lent} {lines' : List ℕ} → m ≡ n → Ran x events lines n y lines' → Ran x events lines m y lines'
 ran_as {x} {events} {lines} {m} {n} {y} {lines'} e d = subst (λ (i : ℕ). Ran x events lines i y lines') (sym e) d
-
-pub begun_as : {x : Lent} {sheet : List ℕ} {m n : ℕ} {y : Lent} → m ≡ n → Begun x sheet n y → Begun x sheet m y
-begun_as {x} {sheet} {m} {n} {y} e d = subst (λ (i : ℕ). Begun x sheet i y) (sym e) d
-
-pub answered_as : {x : Lent} {b : List ℕ} {m n : Line} {y : Lent} → m ≡ n → Answered x b n y → Answered x b m y
-answered_as {x} {b} {m} {n} {y} e d = subst (λ (i : Line). Answered x b i y) (sym e) d

@@ -1,4 +1,6 @@
 pub mod Entering
 pub mod Lending
-pub mod Starting
 pub mod Looking
+pub mod Seeing
+pub mod Shares
+pub mod Starting

@@ -1,15 +1,13 @@
 -- The doors that only look: what each answers, by what it refuses.
-use mathlib.Core.Path.{◌≡◌, sym, ap, ◌∙◌}
+use mathlib.Core.Path.{◌≡◌, sym, ap, subst, ◌∙◌}
 use Prim.Native.Nat.{ℕ, ◌≤◌, ◌<◌, ◌^◌}
 use lib.IntN.{ℤ, pos}
 use lib.ListN.{get_or}
 use borrow.Author.Tests.{le-leb, lt-leb, ne_eqb}
 use native.Mathlib.Decide.{ℕ_discrete, dec_le}
 use native.Mathlib.Omega.{arith}
-use Rattle.refusals.specs.Refusals.{number_of, outcome_of}
+use Rattle.refusals.specs.Refusals.{number_of}
 use Rattle.refusals.specs.declared.Refusal.{Refusal}
-use Rattle.refusals.specs.declared.Outcome.{Outcome}
-use Rattle.refusals.specs.declared.Outcome.TheVariants as outcome
 use Rattle.refusals.proofs.Laws.{never_zero}
 use Rattle.units.specs.Units.{budget_of, remaining_of, Narrow}
 use Rattle.units.proofs.Laws.{remaining_narrow}
@@ -24,74 +22,68 @@ use Rattle.model.specs.Facts.{Fit}
 use Rattle.model.specs.Lent.{Lent, lent_settings, lent_clock, state_in, refused_in}
 use Rattle.model.specs.Policy.{Decided, decide, remaining}
 use Rattle.model.specs.Step.{favoured}
-use Rattle.model.specs.declared.Clock.{Clock}
 use Rattle.model.proofs.Accepted.{fit_of}
 use Rattle.model.proofs.Bounds.{total_fits}
 use Rattle.model.proofs.Flags.{accepted}
 use Rattle.accounts.proofs.ChargingLaws.{used_at_law}
-use Rattle.doors.proofs.Lending.{Number, as_lent, number}
+use Rattle.doors.specs.Inner.{opened_from}
+use Rattle.doors.specs.declared.opening.Opened.{Opened}
 
 -- what was lent and is not refused fits together
 fit_in : (x : Lent) → refused_in x ≡ 0 → Fit (state_in x) x.history
 fit_in x z =
     fit_of (state_in x) x.history (accepted (lent_settings x) x.used (lent_clock x) x.threads x.queue x.history z).1
 
-module _ (x : Lent) (c : Settings) (k : Clock) (ec : c ≡ lent_settings x) (ek : k ≡ lent_clock x) (o : Outcome) (i : Number x c k ec ek (outcome_of o) c k) where
-  refused : (r : Refusal) → o ≡ outcome.Refused r → refused_in x ≡ number_of r
-  refused r f = sym (number x c k ec ek o i) ∙ ap outcome_of f
-
-  taken : o ≡ outcome.Accepted → refused_in x ≡ 0
-  taken f = sym (number x c k ec ek o i) ∙ ap outcome_of f
-
+module _ (x : Lent) where
   -- ---- decision
 
-  pub decision_no : (r : Refusal) → o ≡ outcome.Refused r → refusal_line (number_of r) ≡ decision x
+  pub decision_no : (r : Refusal) → refused_in x ≡ number_of r → refusal_line (number_of r) ≡ decision x
   unfolding decision
-  decision_no r f = rw (refused r f, never_zero r)
+  decision_no r z = rw (z, never_zero r)
 
-  pub decision_yes : o ≡ outcome.Accepted → (d : Decided)
-      → d ≡ decide (state_of c x.used k x.threads x.queue) (favoured (state_of c x.used k x.threads x.queue)) → decision_line d ≡ decision x
+  pub decision_yes : refused_in x ≡ 0 → (i : Opened) → i ≡ opened_from x → (d : Decided)
+      → d ≡ decide (state_of i.settings x.used i.clock x.threads x.queue) (favoured (state_of i.settings x.used i.clock x.threads x.queue)) → decision_line d ≡ decision x
   unfolding decision
-  decision_yes f d e =
+  decision_yes z i f d e =
       let same : d ≡ decide (state_in x) (favoured (state_in x)) =
-      as_lent x c k ec ek (λ a j. d ≡ decide (state_of a x.used j x.threads x.queue) (favoured (state_of a x.used j x.threads x.queue))) e in
-      rw (taken f, ← same)
+      subst (λ (j : Opened). d ≡ decide (state_of j.settings x.used j.clock x.threads x.queue) (favoured (state_of j.settings x.used j.clock x.threads x.queue))) f e in
+      rw (z, ← same)
 
   -- ---- remaining
 
-  pub remaining_no : (p : ℕ) (r : Refusal) → o ≡ outcome.Refused r → ◌≡◌ {A = Remainder} (record { refusal = number_of r; remaining = pos 0 }) (remainder x p)
+  pub remaining_no : (p : ℕ) (r : Refusal) → refused_in x ≡ number_of r → ◌≡◌ {A = Remainder} (record { refusal = number_of r; remaining = pos 0 }) (remainder x p)
   unfolding remainder refused_remaining
-  remaining_no p r f = rw (refused r f, never_zero r, never_zero r)
+  remaining_no p r z = rw (z, never_zero r, never_zero r)
 
-  module _ (f : o ≡ outcome.Accepted) where
+  module _ (c : Settings) (e : c ≡ lent_settings x) (z : refused_in x ≡ 0) where
     fine : Fit (state_in x) x.history
-    fine = fit_in x (taken f)
+    fine = fit_in x z
 
     pub limits : Limits c
-    limits = rw ec fine.sound.settled.limits
+    limits = rw e fine.sound.settled.limits
 
     module _ (p : ℕ) where
       pub remaining_place : c.count ≤ p → ◌≡◌ {A = Remainder} (record { refusal = 12; remaining = pos 0 }) (remainder x p)
       unfolding remainder refused_remaining
       remaining_place l =
-          let out : (lent_settings x).count ≤ p = rw ec at l in
-          rw (taken f, le-leb (lent_settings x).count p out)
+          let out : (lent_settings x).count ≤ p = rw e at l in
+          rw (z, le-leb (lent_settings x).count p out)
 
       pub used_low : p < c.count → get_or x.used p 0 < 2 ^ 32
       used_low l =
-          let inside : p < (lent_settings x).count = rw ec at l in
+          let inside : p < (lent_settings x).count = rw e at l in
           let s = fine.sound.settled in
           omega (arith, total_fits (state_in x) x.history fine.room s p 0 inside (omega (arith, s.books.since_high)), used_at_law x.used p)
 
-      pub remaining_yes : p < c.count → (z : ℤ) (b : ℕ) → b ≡ budget_of (share c p) (W c) (C c) → z ≡ remaining_of b (get_or x.used p 0)
-          → ◌≡◌ {A = Remainder} (record { refusal = 0; remaining = z }) (remainder x p)
+      pub remaining_yes : p < c.count → (r : ℤ) (b : ℕ) → b ≡ budget_of (share c p) (W c) (C c) → r ≡ remaining_of b (get_or x.used p 0)
+          → ◌≡◌ {A = Remainder} (record { refusal = 0; remaining = r }) (remainder x p)
       unfolding remainder refused_remaining remaining budget
-      remaining_yes l z b g e =
-          let inside : p < (lent_settings x).count = rw ec at l in
-          let whole : b ≡ budget_of (share (lent_settings x) p) (W (lent_settings x)) (C (lent_settings x)) = g ∙ ap (λ (a : Settings). budget_of (share a p) (W a) (C a)) ec in
-          let told : z ≡ remaining_of (budget_of (share (lent_settings x) p) (W (lent_settings x)) (C (lent_settings x))) (used (state_in x) p) =
-          e ∙ ap (λ (n : ℕ). remaining_of n (get_or x.used p 0)) whole ∙ ap (remaining_of _) (sym (used_at_law x.used p)) in
-          rw (taken f, lt-leb (lent_settings x).count p inside, told)
+      remaining_yes l r b g f =
+          let inside : p < (lent_settings x).count = rw e at l in
+          let whole : b ≡ budget_of (share (lent_settings x) p) (W (lent_settings x)) (C (lent_settings x)) = g ∙ ap (λ (a : Settings). budget_of (share a p) (W a) (C a)) e in
+          let told : r ≡ remaining_of (budget_of (share (lent_settings x) p) (W (lent_settings x)) (C (lent_settings x))) (used (state_in x) p) =
+          f ∙ ap (λ (n : ℕ). remaining_of n (get_or x.used p 0)) whole ∙ ap (remaining_of _) (sym (used_at_law x.used p)) in
+          rw (z, lt-leb (lent_settings x).count p inside, told)
 
 -- ---- what remains fits 32 bits
 

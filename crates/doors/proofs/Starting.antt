@@ -10,14 +10,11 @@ use borrow.Author.Tests.{lt-ltb, le-ltb}
 use Rattle.lists.specs.Lists.{below}
 use Rattle.lists.proofs.All.{below_all}
 use Rattle.lists.proofs.Tables.{table_of, table_length, table_at}
-use Rattle.lists.proofs.Tests.{clash, and}
-use Rattle.refusals.specs.Refusals.{number_of, outcome_of}
-use Rattle.refusals.specs.declared.Outcome.{Outcome}
-use Rattle.refusals.specs.declared.Outcome.TheVariants as outcome
+use Rattle.lists.proofs.Tests.{and}
+use Rattle.refusals.specs.Refusals.{number_of}
 use Rattle.refusals.specs.declared.Refusal.{Refusal}
 use Rattle.refusals.specs.declared.Refusal.TheVariants.{Buffer}
 use Rattle.refusals.proofs.Laws.{never_zero}
-use Rattle.units.specs.declared.Percent.{Percent}
 use Rattle.sheet.specs.Settings.{W}
 use Rattle.sheet.specs.Sheet as Sheet
 use Rattle.sheet.specs.declared.Settings.{Settings}
@@ -33,11 +30,7 @@ use Rattle.model.specs.Run.{fresh}
 use Rattle.model.specs.Step.{Saved}
 use Rattle.doors.specs.Doors.{Begun}
 use Rattle.doors.specs.Inner.{Fresh}
-
--- ---- the settings, stored and read back
-
-pub shares_back : (l : List Percent) → length l ≡ 16 → map (λ p. record { 0 = (get_or l p (record { 0 = 0 })).0 }) (below 16) ≡ l
-shares_back l h = sym (table_of l 16 (record { 0 = 0 }) h)
+use Rattle.doors.proofs.Lending.{not_zero}
 
 -- ---- no threads
 
@@ -106,34 +99,28 @@ module _ (x : Lent) (sheet : List ℕ) where
   unfolding refused_start
   start_fits e l = rw (e, le-ltb _ _ l)
 
-  never : (i : Refusal) → number_of i ≡ 0 → ⊥
-  never i z = let w : eqb 0 0 ≡ false = rw z at (never_zero i) in clash refl w
-
-  refused : (o : Outcome) (r : Refusal) → o ≡ outcome.Refused r → outcome_of o ≡ refused_start sheet x.history → Begun x sheet (outcome_of o) x
-  refused o r f e = record {
+  refused : (r : Refusal) → number_of r ≡ refused_start sheet x.history → Begun x sheet (number_of r) x
+  refused r e = record {
     refusal = e;
-    after = λ z. absurd (never r (sym (ap outcome_of f) ∙ z));
-    taken = λ z. absurd (never r (sym (ap outcome_of f) ∙ z));
+    after = λ z. absurd (not_zero r z);
+    taken = λ z. absurd (not_zero r z);
     still = λ _. refl;
   }
 
-  pub begun_sheet : (o : Outcome) (r : Refusal) → o ≡ outcome.Refused r → outcome_of o ≡ Sheet.refused_sheet sheet → Begun x sheet (outcome_of o) x
-  begun_sheet o r f e = refused o r f (ap outcome_of f ∙ sym (start_sheet r (sym e ∙ ap outcome_of f)))
+  pub begun_sheet : (r : Refusal) → number_of r ≡ Sheet.refused_sheet sheet → Begun x sheet (number_of r) x
+  begun_sheet r e = refused r (sym (start_sheet r (sym e)))
 
   -- ---- an accepted sheet, of which c was read
 
-  module _ (o : Outcome) (c : Settings) (f : o ≡ outcome.Accepted) (e : outcome_of o ≡ Sheet.refused_sheet sheet) (i : c ≡ Sheet.settings_read sheet) where
-    none_refused : Sheet.refused_sheet sheet ≡ 0
-    none_refused = sym e ∙ ap outcome_of f
-
+  module _ (c : Settings) (none_refused : Sheet.refused_sheet sheet ≡ 0) (i : c ≡ Sheet.settings_read sheet) where
     is_read : c ≡ Sheet.settings_of sheet
     unfolding Sheet.settings_read
     is_read = i ∙ rw none_refused
 
     pub begun_short : length x.history < c.count * W c → Begun x sheet 7 x
-    begun_short l = refused (outcome.Refused Buffer) Buffer refl (sym (start_short none_refused (subst (λ (j : Settings). length x.history < j.count * W j) is_read l)))
+    begun_short l = refused Buffer (sym (start_short none_refused (subst (λ (j : Settings). length x.history < j.count * W j) is_read l)))
 
-    pub begun_yes : c.count * W c ≤ length x.history → (y : Lent) → Fresh c x.history y → Begun x sheet (outcome_of o) y
+    pub begun_yes : c.count * W c ≤ length x.history → (y : Lent) → Fresh c x.history y → Begun x sheet 0 y
     begun_yes l y d =
         let room : (Sheet.settings_of sheet).count * W (Sheet.settings_of sheet) ≤ length x.history =
         subst (λ (j : Settings). j.count * W j ≤ length x.history) is_read l in
@@ -142,8 +129,12 @@ module _ (x : Lent) (sheet : List ℕ) where
         let fine : refused_state (state_in y) y.history ≡ 0 =
         subst (λ (v : Saved). refused_state v.state v.history ≡ 0) (sym same) (of_fit _ _ (start_good sheet x.history z).fit) in
         record {
-          refusal = ap outcome_of f ∙ sym z;
+          refusal = sym z;
           after = λ _. same;
           taken = λ _. as_state (lent_settings y) y.used (lent_clock y) y.threads y.queue y.history d.flags ∙ fine;
-          still = λ n. absurd (n (ap outcome_of f));
+          still = λ n. absurd (n refl);
         }
+
+-- the same answer, told otherwise
+pub begun_as : {x : Lent} {sheet : List ℕ} {m n : ℕ} {y : Lent} → m ≡ n → Begun x sheet n y → Begun x sheet m y
+begun_as {x} {sheet} {m} {n} {y} e d = subst (λ (i : ℕ). Begun x sheet i y) (sym e) d

@@ -3,8 +3,18 @@ use Rattle.std.specs.Prelude.{◌≢◌, ◌≡◌, ℕ, List, length}
 use Rattle.sheet.specs.Sheet.{settings_of}
 use Rattle.model.specs.Answers.{Line, answer_line}
 use Rattle.model.specs.Doors.{refused_start, answer_to, after_run, lines_after}
-use Rattle.model.specs.Lent.{Lent, saved_in, refused_in}
+use Rattle.model.specs.Arrays.{columns_in, columns_seen}
+use Rattle.model.specs.Lent.{Lent, lent, saved_in, refused_in}
 use Rattle.model.specs.Run.{fresh}
+use Rattle.model.specs.declared.StateMut.{StateMut}
+use Rattle.model.specs.declared.StateRef.{StateRef}
+
+-- the numbers of settings, shares and clock, and a state's arrays, lent to be worked on and lent to be looked at
+abbrev pub lent_in : List ℕ → List ℕ → List ℕ → StateMut → Lent
+lent_in a b k x = lent a b x.used.now k (columns_in x) x.queue.now x.history.now
+
+abbrev pub lent_seen : List ℕ → List ℕ → List ℕ → StateRef → Lent
+lent_seen a b k x = lent a b x.used.now k (columns_seen x) x.queue.now x.history.now
 
 -- what every array that is lent has, by its type
 pub record Sizes (x : Lent) : Type 0 where

@@ -4,6 +4,7 @@
 #![tactic(auto)]
 
 pub mod batch;
+pub mod opening;
 pub mod queries;
 pub mod single;
 pub mod start;

@@ -1,15 +1,14 @@
 // The two doors that only look: the decision for a state, and what remains of one partition's budget. Both take any state and any history,
 // refuse what is not sound, and write nothing.
 ghost use Rattle.std.specs.Prelude.{◌≡◌};
-ghost use Rattle.model.specs.Arrays.{columns};
 ghost use Rattle.model.specs.Answers.{line_of, remainder_of};
 ghost use Rattle.model.specs.Doors as Doors;
-ghost use Rattle.model.specs.Lent.{lent};
+ghost use Rattle.doors.specs.Doors.{lent_seen};
 
-use crate::words;
-use decision::kept;
-use model::{Balance, Verdict};
-use refusals::{Outcome, Refusal};
+use crate::opening;
+use crate::opening::Beside;
+use model::{Decision, StateRef};
+use refusals::Refusal;
 use units::Cycles;
 
 // The decision door: mode, partition and thread as the rules give them for the state. Favoured is the partition that its running thread works
@@ -18,50 +17,14 @@ use units::Cycles;
 pub fn decision(
     settings: &[u32; 7],
     shares: &[u32; 16],
-    used: &[u32; 16],
     clock: &[u32; 5],
-    exists: &[u8; 64],
-    ready: &[u8; 64],
-    partitions: &[u8; 64],
-    priorities: &[u8; 64],
-    masks: &[u8; 64],
-    policies: &[u8; 64],
-    slices: &[u8; 64],
-    queue: &[u8; 64],
-    history: &[u32],
-) -> Verdict
-    ensures { line_of result ≡ Doors.decision (lent settings.now shares.now used.now clock.now (columns exists.now ready.now partitions.now priorities.now masks.now policies.now slices.now) queue.now history.now) }
+    state: StateRef<'_>,
+) -> Result<Decision, Refusal>
+    ensures { line_of result ≡ Doors.decision (lent_seen settings.now shares.now clock.now state.entry) }
 {
-    let s = words::settings_in(settings, shares);
-    let c = words::clock_in(clock);
-    words::sized(
-        used, exists, ready, partitions, priorities, masks, policies, slices, queue,
-    );
-    let outcome = soundness::refused_state(
-        s, used, exists, ready, partitions, priorities, masks, policies, slices, queue, c, history,
-    );
-    match outcome {
-        Outcome::Refused(refusal) => Verdict::Refused(refusal),
-        Outcome::Accepted => {
-            let mut budgets = [0u32; 16];
-            let mut tops = [0u16; 16];
-            let mut firsts = [0u8; 16];
-            let sets = kept::begin(
-                s,
-                used,
-                partitions,
-                priorities,
-                masks,
-                queue,
-                c.queued,
-                &mut budgets,
-                &mut tops,
-                &mut firsts,
-            );
-            let favoured = kept::favoured_in(partitions, c.running);
-            Verdict::Decided(kept::choose(s, used, &budgets, &tops, &firsts, sets, favoured))
-        }
-    }
+    let opened = opening::open(settings, shares, clock, state)?;
+    let Beside { cache, favoured } = opened.beside(state);
+    Ok(cache.choose(opened.settings, state.used, favoured))
 }
 
 // The remaining door: what remains of the partition's budget, below zero after an overrun. It refuses what the decision door refuses, and
@@ -69,39 +32,17 @@ pub fn decision(
 pub fn remaining(
     settings: &[u32; 7],
     shares: &[u32; 16],
-    used: &[u32; 16],
     clock: &[u32; 5],
-    exists: &[u8; 64],
-    ready: &[u8; 64],
-    partitions: &[u8; 64],
-    priorities: &[u8; 64],
-    masks: &[u8; 64],
-    policies: &[u8; 64],
-    slices: &[u8; 64],
-    queue: &[u8; 64],
-    history: &[u32],
+    state: StateRef<'_>,
     partition: u32,
-) -> Balance
-    ensures { remainder_of result ≡ Doors.remainder (lent settings.now shares.now used.now clock.now (columns exists.now ready.now partitions.now priorities.now masks.now policies.now slices.now) queue.now history.now) partition }
+) -> Result<i64, Refusal>
+    ensures { remainder_of result ≡ Doors.remainder (lent_seen settings.now shares.now clock.now state.entry) partition }
 {
-    let s = words::settings_in(settings, shares);
-    let c = words::clock_in(clock);
-    let outcome = soundness::refused_state(
-        s, used, exists, ready, partitions, priorities, masks, policies, slices, queue, c, history,
-    );
-    match outcome {
-        Outcome::Refused(refusal) => Balance::Refused(refusal),
-        Outcome::Accepted => {
-            if s.count <= partition {
-                return Balance::Refused(Refusal::Partition);
-            }
-            let p = partition as usize;
-            let share = s.shares[p];
-            let window = s.window;
-            let tick = s.tick;
-            let budget = units::budget(share, window, tick);
-            let charged = used[p];
-            Balance::Remaining(units::remaining(budget, Cycles(charged)))
-        }
+    let settings = opening::open(settings, shares, clock, state)?.settings;
+    if settings.count <= partition {
+        return Err(Refusal::Partition);
     }
+    let p = partition as usize;
+    let budget = units::budget(settings.shares[p], settings.window, settings.tick);
+    Ok(units::remaining(budget, Cycles(state.used[p])))
 }

@@ -1,5 +1,6 @@
 -- A well-formed record is the record of the event that is read from it.
 use mathlib.Core.Path.{◌≡◌, sym, ap, ◌∙◌}
+use Rattle.std.specs.Prelude.{Result, Ok, Err}
 use Prim.Native.Nat.{ℕ, ◌+◌, ◌*◌, ◌/◌, ◌%◌, ◌≤◌, ◌<◌}
 use mathlib.Core.Bool.{true, false, not, cond, ◌&&◌, ◌||◌}
 use mathlib.Core.List.{List, [], ◌∷◌}
@@ -13,7 +14,6 @@ use Rattle.lists.proofs.Tests.{both, clash, passes}
 use Rattle.refusals.specs.Refusals.{number_of, outcome_of}
 use Rattle.refusals.specs.declared.Refusal.{Refusal}
 use Rattle.refusals.specs.declared.Refusal.TheVariants.{Length, Kind}
-use Rattle.refusals.specs.declared.Outcome.TheVariants as outcome
 use Rattle.refusals.proofs.Laws.{never_zero}
 use Rattle.model.specs.Event.{byte, kind_of, stamp_of, known, well_formed, names_thread, names_place, names_priority, blank}
 use Rattle.model.specs.Typed.{Bytes}
@@ -21,7 +21,7 @@ use Rattle.event.specs.Kinds.{kind_number, uses_of}
 use Rattle.event.specs.declared.kinds.Uses.{Uses}
 use Rattle.event.specs.declared.kinds.Action.{Action}
 use Rattle.event.specs.Bytes.{bytes_of, formed_by, refused_form, DecodedFrom}
-use Rattle.event.specs.declared.Decoded.{Decoded}
+use Rattle.event.specs.declared.Event.{Event}
 
 -- a list of twelve, by its numbers
 twelve : (b : List ℕ) → length b ≡ 12
@@ -84,29 +84,36 @@ unfolding formed_by well_formed uses_of
 formed_is b u e = rw e
 
 -- a refusal by number n, of bytes that are refused by it
-refused_as : (b : List ℕ) (d : Decoded) (r : Refusal) → d.outcome ≡ outcome.Refused r → refused_form b ≡ number_of r → DecodedFrom b d
-refused_as b d r e f = record {
-  refusal = ap outcome_of e ∙ sym f;
-  bytes = λ z. clash (ap (λ (i : ℕ). eqb i 0) (sym (ap outcome_of e) ∙ z)) (never_zero r);
-  stamp = λ z. clash (ap (λ (i : ℕ). eqb i 0) (sym (ap outcome_of e) ∙ z)) (never_zero r);
-}
+refused_as : (b : List ℕ) (r : Refusal) → refused_form b ≡ number_of r → DecodedFrom b (Err r)
+refused_as b r f =
+    let no : (e : Event) → Err r ≡ Ok e → ⊥ = λ e q. clash (ap (λ (d : Result Event Refusal). eqb (outcome_of d) 0) q) (never_zero r) in
+    record { refusal = sym f; bytes = λ e q. absurd (no e q); stamp = λ e q. absurd (no e q) }
 
-pub decoded_length : (b : List ℕ) (d : Decoded) → (length b ≡ 12 → ⊥) → d.outcome ≡ outcome.Refused Length → DecodedFrom b d
+pub decoded_length : (b : List ℕ) → (length b ≡ 12 → ⊥) → DecodedFrom b (Err Length)
 unfolding refused_form
-decoded_length b d n e = refused_as b d Length e (rw (ne_eqb (length b) 12 n))
+decoded_length b n = refused_as b Length (rw (ne_eqb (length b) 12 n))
+
+same_event : {x y : Event} → ◌≡◌ {A = Result Event Refusal} (Ok x) (Ok y) → x ≡ y
+same_event q = cc
 
 module _ (b : List ℕ) (h : length b ≡ 12) (u : Uses) (e : u ≡ uses_of (kind_of b)) where
-  pub decoded_form : (d : Decoded) → formed_by u b ≡ false → d.outcome ≡ outcome.Refused Kind → DecodedFrom b d
+  pub decoded_form : formed_by u b ≡ false → DecodedFrom b (Err Kind)
   unfolding refused_form
-  decoded_form d f g = refused_as b d Kind g (let w = sym (formed_is b u e) ∙ f in rw (eq-eqb (length b) 12 h, w))
+  decoded_form f = refused_as b Kind (let w = sym (formed_is b u e) ∙ f in rw (eq-eqb (length b) 12 h, w))
+
+  abbrev read : Action → ℕ → Event
+  read a stamp = record { action = a; stamp = stamp; thread = byte b 1; partition = byte b 2; priority = byte b 3; mask = byte b 8; policy = byte b 9 }
 
   pub decoded_event : (a : Action) (stamp : ℕ) → formed_by u b ≡ true → Bytes b → kind_number a ≡ cond (known (kind_of b)) (kind_of b) 0 → stamp ≡ stamp_of b
-      → DecodedFrom b
-      (record { outcome = outcome.Accepted; event = record { action = a; stamp = stamp; thread = byte b 1; partition = byte b 2; priority = byte b 3; mask = byte b 8; policy = byte b 9 } })
+      → DecodedFrom b (Ok (read a stamp))
   unfolding refused_form
   decoded_event a stamp f y k s =
       let w = sym (formed_is b u e) ∙ f in
-      record { refusal = rw (eq-eqb (length b) 12 h, w); bytes = λ _. read_back b w a stamp h y k s; stamp = λ _. s }
+      record {
+        refusal = rw (eq-eqb (length b) 12 h, w);
+        bytes = λ x q. read_back b w a stamp h y k s ∙ ap bytes_of (same_event q);
+        stamp = λ x q. sym (ap (λ (v : Event). v.stamp) (same_event q)) ∙ s;
+      }
 
 -- bytes that are not refused
 pub formed_bytes : (b : List ℕ) → refused_form b ≡ 0 → (length b ≡ 12) × (well_formed b ≡ true)

@@ -1,4 +1,4 @@
--- An action and the number of its kind: what a caller of form_of knows of the kind byte, where it matches on the action.
+-- An action and the number of its kind: what a caller of Form::from knows of the kind byte, where it matches on the action.
 use mathlib.Core.Path.{◌≡◌, refl, sym, ap, subst, ◌∙◌}
 use Prim.Native.Nat.{ℕ, ◌<◌}
 use mathlib.Core.Bool.{Bool, true, false, not, cond}

@@ -1,11 +1,11 @@
 -- The record of an event: the twelve bytes that say it.
-use Rattle.std.specs.Prelude.{ℕ, ◌/◌, ◌%◌, List, [], ◌∷◌, ◌≡◌, Bool, not, cond, ◌&&◌, ◌||◌, eqb, length}
+use Rattle.std.specs.Prelude.{ℕ, ◌/◌, ◌%◌, List, [], ◌∷◌, ◌≡◌, Bool, not, cond, ◌&&◌, ◌||◌, eqb, length, Result, Ok}
 use Rattle.refusals.specs.Refusals.{outcome_of}
+use Rattle.refusals.specs.declared.Refusal.{Refusal}
 use Rattle.model.specs.Event.{blank, well_formed, stamp_of}
 use Rattle.event.specs.Kinds.{kind_number}
 use Rattle.event.specs.declared.kinds.Uses.{Uses}
 use Rattle.event.specs.declared.Event.{Event}
-use Rattle.event.specs.declared.Decoded.{Decoded}
 
 -- the stamp's bytes, low byte first
 abbrev pub bytes_of : Event → List ℕ
@@ -30,7 +30,7 @@ unfoldable pub refused_form : List ℕ → ℕ
 refused_form b = cond (not (eqb (length b) 12)) 14 (cond (not (well_formed b)) 9 0)
 
 -- what was decoded of the bytes b: refused, or an event whose record they are
-pub record DecodedFrom (b : List ℕ) (d : Decoded) : Type 0 where
-  pub refusal : outcome_of d.outcome ≡ refused_form b
-  pub bytes : outcome_of d.outcome ≡ 0 → b ≡ bytes_of d.event
-  pub stamp : outcome_of d.outcome ≡ 0 → d.event.stamp ≡ stamp_of b
+pub record DecodedFrom (b : List ℕ) (d : Result Event Refusal) : Type 0 where
+  pub refusal : outcome_of d ≡ refused_form b
+  pub bytes : (e : Event) → d ≡ Ok e → b ≡ bytes_of e
+  pub stamp : (e : Event) → d ≡ Ok e → e.stamp ≡ stamp_of b

@@ -1,7 +1,5 @@
 // The kinds of events: what each asks for, and which bytes of its record it uses.
-ghost use Rattle.std.specs.Prelude.{◌≡◌, cond};
-ghost use Rattle.model.specs.Event.{known};
-ghost use Rattle.event.specs.Kinds.{kind_number, uses_of};
+ghost use Rattle.event.specs.Kinds.{FormOf};
 
 // What an event asks for. `kind_number` in specs/ gives each case the number of its kind.
 #[derive(Clone, Copy)]
@@ -36,83 +34,51 @@ pub struct Form {
     pub uses: Uses,
 }
 
+// The column "uses" of the table of kinds: an unknown kind uses no byte, and each known kind those of one of these rows.
+const UNKNOWN: Uses = Uses {
+    known: false,
+    thread: false,
+    place: false,
+    priority: false,
+};
+
+const NOTHING: Uses = Uses {
+    known: true,
+    ..UNKNOWN
+};
+
+const THREAD: Uses = Uses {
+    thread: true,
+    ..NOTHING
+};
+
+const THREAD_AND_PRIORITY: Uses = Uses {
+    priority: true,
+    ..THREAD
+};
+
+const ALL: Uses = Uses {
+    place: true,
+    ..THREAD_AND_PRIORITY
+};
+
 // The form that the paper names for "Kind 0 and kinds 8 to 255 are unknown": one decision over the kind byte, with a range, chooses the action
 // and which bytes must be zero.
-pub fn form_of(kind: u8) -> Form
-    ensures { (kind_number result.action ≡ cond (known kind) kind 0) × (result.uses ≡ uses_of kind) }
-{
-    match kind {
-        0 | 8..=255 => Form {
-            action: Action::Unknown,
-            uses: Uses {
-                known: false,
-                thread: false,
-                place: false,
-                priority: false,
-            },
-        },
-        1 => Form {
-            action: Action::Tick,
-            uses: Uses {
-                known: true,
-                thread: false,
-                place: false,
-                priority: false,
-            },
-        },
-        2 => Form {
-            action: Action::Create,
-            uses: Uses {
-                known: true,
-                thread: true,
-                place: true,
-                priority: true,
-            },
-        },
-        3 => Form {
-            action: Action::Ready,
-            uses: Uses {
-                known: true,
-                thread: true,
-                place: false,
-                priority: false,
-            },
-        },
-        4 => Form {
-            action: Action::Block,
-            uses: Uses {
-                known: true,
-                thread: true,
-                place: false,
-                priority: false,
-            },
-        },
-        5 => Form {
-            action: Action::SetPriority,
-            uses: Uses {
-                known: true,
-                thread: true,
-                place: false,
-                priority: true,
-            },
-        },
-        6 => Form {
-            action: Action::End,
-            uses: Uses {
-                known: true,
-                thread: true,
-                place: false,
-                priority: false,
-            },
-        },
-        7 => Form {
-            action: Action::Resume,
-            uses: Uses {
-                known: true,
-                thread: false,
-                place: false,
-                priority: false,
-            },
-        },
+impl From<u8> for Form {
+    ghost from_gives = { λ kind form. FormOf kind form };
+
+    #[tactic(auto, using(crate::proofs::KindsLaws::unknown_form), unfolding(crate::specs::Kinds::uses_of, model::specs::Event::known, model::specs::Event::names_thread, model::specs::Event::names_place, model::specs::Event::names_priority))]
+    fn from(kind: u8) -> Form {
+        let (action, uses) = match kind {
+            0 | 8..=255 => (Action::Unknown, UNKNOWN),
+            1 => (Action::Tick, NOTHING),
+            2 => (Action::Create, ALL),
+            3 => (Action::Ready, THREAD),
+            4 => (Action::Block, THREAD),
+            5 => (Action::SetPriority, THREAD_AND_PRIORITY),
+            6 => (Action::End, THREAD),
+            7 => (Action::Resume, NOTHING),
+        };
+        Form { action, uses }
     }
 }

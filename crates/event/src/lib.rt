@@ -3,12 +3,12 @@
 
 pub mod kinds;
 
-ghost use Rattle.std.specs.Prelude.{◌≡◌, length};
+ghost use Rattle.std.specs.Prelude.{◌≡◌};
 ghost use Rattle.model.specs.Event.{stamp_of};
 ghost use Rattle.event.specs.Bytes.{formed_by, DecodedFrom};
 
-use kinds::{Action, Uses};
-use refusals::{Outcome, Refusal};
+use kinds::{Action, Form, Uses};
+use refusals::Refusal;
 
 #[derive(Clone, Copy)]
 pub struct Event {
@@ -21,16 +21,9 @@ pub struct Event {
     pub policy: u8,
 }
 
-// What decoding answers: the event, of which nothing is lost; or 14 or 9 beside zeros.
-#[derive(Clone, Copy)]
-pub struct Decoded {
-    pub outcome: Outcome,
-    pub event: Event,
-}
-
 // The kind is known, and every byte that it does not use is zero.
-fn formed(uses: Uses, bytes: &[u8]) -> bool
-    requires { length bytes.now ≡ 12 }
+#[tactic(auto, unfolding(crate::specs::Bytes::formed_by))]
+fn formed(uses: Uses, bytes: &[u8; 12]) -> bool
     ensures { result ≡ formed_by uses bytes.now }
 {
     uses.known
@@ -44,60 +37,29 @@ fn formed(uses: Uses, bytes: &[u8]) -> bool
 }
 
 // The timestamp, low byte first.
-fn stamp_of(bytes: &[u8]) -> u32
-    requires { length bytes.now ≡ 12 }
+#[tactic(auto, unfolding(model::specs::Event::stamp_of))]
+fn stamp_of(bytes: &[u8; 12]) -> u32
     ensures { result ≡ stamp_of bytes.now }
 {
-    let a = bytes[4] as u32;
-    let b = bytes[5] as u32;
-    let c = bytes[6] as u32;
-    let d = bytes[7] as u32;
-    a + 256 * b + 65536 * c + 16777216 * d
+    u32::from_le_bytes([bytes[4], bytes[5], bytes[6], bytes[7]])
 }
 
-// Zeros beside a refusal.
-fn refuse(refusal: Refusal) -> Decoded
-    ensures { result.outcome ≡ Outcome.Refused refusal }
-{
-    Decoded {
-        outcome: Outcome::Refused(refusal),
-        event: Event {
-            action: Action::Unknown,
-            stamp: 0,
-            thread: 0,
-            partition: 0,
-            priority: 0,
-            mask: 0,
-            policy: 0,
-        },
-    }
-}
-
-// Any bytes: 14 where they are not twelve, 9 where their kind is unknown or an unused byte is not zero.
-pub fn decode(bytes: &[u8]) -> Decoded
+// The event that any bytes say, of which nothing is lost: 14 where they are not twelve, 9 where their kind is unknown or an unused byte is not zero.
+pub fn decode(bytes: &[u8]) -> Result<Event, Refusal>
     ensures { DecodedFrom bytes.now result }
 {
-    if bytes.len() != 12 {
-        return refuse(Refusal::Length);
+    let record: &[u8; 12] = bytes.as_array().ok_or(Refusal::Length)?;
+    let Form { action, uses } = Form::from(record[0]);
+    if !formed(uses, record) {
+        return Err(Refusal::Kind);
     }
-    let form = kinds::form_of(bytes[0]);
-    let uses = form.uses;
-    if !formed(uses, bytes) {
-        return refuse(Refusal::Kind);
-    }
-    let action = form.action;
-    let stamp = stamp_of(bytes);
-    let event = Event {
-        action: action,
-        stamp: stamp,
-        thread: bytes[1],
-        partition: bytes[2],
-        priority: bytes[3],
-        mask: bytes[8],
-        policy: bytes[9],
-    };
-    Decoded {
-        outcome: Outcome::Accepted,
-        event: event,
-    }
+    Ok(Event {
+        action,
+        stamp: stamp_of(record),
+        thread: record[1],
+        partition: record[2],
+        priority: record[3],
+        mask: record[8],
+        policy: record[9],
+    })
 }

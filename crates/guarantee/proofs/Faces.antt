@@ -1,11 +1,12 @@
 -- Demands 2 and 3 look at the events' bytes and at the lines that answered them, and not at the states that they left: of two lists of entries that
 -- are alike in the former they say the same.
 use mathlib.Core.Path.{◌≡◌, refl, sym, ap, ap₂, subst, ◌∙◌}
-use Prim.Native.Nat.{ℕ, zero, suc, ◌+◌, ◌≤◌, ◌<◌}
+use Prim.Native.Nat.{ℕ, ◌+◌, ◌≤◌, ◌<◌}
 use mathlib.Core.Bool.{Bool, true, not, cond, ◌&&◌, ◌||◌}
 use mathlib.Core.List.{List, [], ◌∷◌, ◌++◌, map, map-map, map-append}
 use lib.ListN.{length, take, length-map}
 use lib.IntN.{pos}
+use Rattle.std.proofs.lemmas.List.{take-map}
 use lib.Signed.{◌≤ℤ◌}
 use lib.Dec.{eqb}
 use native.Mathlib.Omega.{arith}
@@ -49,11 +50,6 @@ module _ {A B : Type 0} (f : A → B) where
         here_is = p.here_is;
         rest_is = p.rest_is;
       }
-
-  map_take : (n : ℕ) (l : List A) → map f (take n l) ≡ take n (map f l)
-  map_take zero l = refl
-  map_take (suc n) [] = refl
-  map_take (suc n) (x ∷ l) = ap (λ (k : List B). f x ∷ k) (map_take n l)
 
 -- ---- what is seen of an entry: all but the state that it left, for which v stands
 
@@ -176,7 +172,7 @@ module _ (v : Saved) where
     until_faces : (n : ℕ) → faces (f.before' ++ (f.opening' ∷ take n f.within')) ≡ faces (before ++ (opening ∷ take n within))
     until_faces n =
         let some : faces (take n f.within') ≡ faces (take n within) =
-        map_take face n f.within' ∙ ap (take n) f.w ∙ sym (map_take face n within) in
+        sym (take-map face n f.within') ∙ ap (take n) f.w ∙ take-map face n within in
         map-append face f.before' (f.opening' ∷ take n f.within') ∙ (λ i. f.b i ++ (f.o i ∷ some i))
         ∙ sym (map-append face before (opening ∷ take n within))
 

@@ -4,8 +4,8 @@ ghost use Rattle.refusals.specs.Refusals.{outcome_of};
 ghost use Rattle.model.specs.Answers.{line_of};
 ghost use Rattle.lines.specs.Numbers.{numbers_of, unpacked};
 
-use model::Verdict;
-use refusals::Outcome;
+use model::Decision;
+use refusals::Refusal;
 
 // The four numbers of a line of the desk program.
 #[derive(Clone, Copy)]
@@ -16,46 +16,42 @@ pub struct Numbers {
     pub thread: u8,
 }
 
-// 0, or the number of the refusal.
-pub fn outcome_number(outcome: Outcome) -> u8
-    ensures { result ≡ outcome_of outcome }
-{
-    match outcome {
-        Outcome::Accepted => 0,
-        Outcome::Refused(refusal) => refusals::number(refusal),
+// The numbers of a decision, or of a refusal with zeros beside it.
+impl From<Result<Decision, Refusal>> for Numbers {
+    ghost from_gives = { λ verdict numbers. numbers_of numbers ≡ line_of verdict };
+
+    fn from(verdict: Result<Decision, Refusal>) -> Numbers {
+        match verdict {
+            Ok(d) => Numbers {
+                refusal: 0,
+                mode: u8::from(d.mode),
+                partition: d.partition,
+                thread: d.thread,
+            },
+            Err(refusal) => Numbers {
+                refusal: u8::from(refusal),
+                mode: 0,
+                partition: 0,
+                thread: 0,
+            },
+        }
     }
 }
 
-// The numbers of a decision, or of a refusal with zeros beside it.
-pub fn verdict_numbers(verdict: Verdict) -> Numbers
-    ensures { numbers_of result ≡ line_of verdict }
+// 0, or the number of the refusal.
+pub fn outcome_number(outcome: Result<(), Refusal>) -> u8
+    ensures { result ≡ outcome_of outcome }
 {
-    match verdict {
-        Verdict::Decided(d) => {
-            let mode = d.mode;
-            Numbers {
-                refusal: 0,
-                mode: crate::mode_number(mode),
-                partition: d.partition,
-                thread: d.thread,
-            }
-        }
-        Verdict::Refused(refusal) => Numbers {
-            refusal: refusals::number(refusal),
-            mode: 0,
-            partition: 0,
-            thread: 0,
-        },
+    match outcome {
+        Ok(()) => 0,
+        Err(refusal) => u8::from(refusal),
     }
 }
 
 // The four numbers in one, a byte each, the refusal lowest.
-pub fn packed(verdict: Verdict) -> u32
+pub fn packed(verdict: Result<Decision, Refusal>) -> u32
     ensures { unpacked result ≡ line_of verdict }
 {
-    let n = verdict_numbers(verdict);
-    (n.refusal as u32)
-        + 256 * (n.mode as u32)
-        + 65536 * (n.partition as u32)
-        + 16777216 * (n.thread as u32)
+    let n = Numbers::from(verdict);
+    u32::from_le_bytes([n.refusal, n.mode, n.partition, n.thread])
 }

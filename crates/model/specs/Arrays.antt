@@ -4,6 +4,8 @@ use Rattle.lists.specs.Lists.{all, below}
 use Rattle.sheet.specs.declared.Settings.{Settings}
 use Rattle.model.specs.State.{cycles, State, Thread}
 use Rattle.model.specs.declared.Clock.{Clock}
+use Rattle.model.specs.declared.StateMut.{StateMut}
+use Rattle.model.specs.declared.StateRef.{StateRef}
 
 -- a flag is a byte: 1 where it is on, 0 where it is off
 abbrev pub flag : Bool → ℕ
@@ -21,6 +23,35 @@ pub record Columns : Type 0 where
 
 abbrev pub columns : List ℕ → List ℕ → List ℕ → List ℕ → List ℕ → List ℕ → List ℕ → Columns
 columns e r p n m o l = record { exists = e; ready = r; partitions = p; priorities = n; masks = m; policies = o; slices = l }
+
+-- the columns of what is lent, to work on and to look at
+abbrev pub columns_in : StateMut → Columns
+columns_in x =
+    columns x.exists.now x.ready.now x.partitions.now x.priorities.now x.masks.now x.policies.now x.slices.now
+
+abbrev pub columns_seen : StateRef → Columns
+columns_seen x =
+    columns x.exists.now x.ready.now x.partitions.now x.priorities.now x.masks.now x.policies.now x.slices.now
+
+-- what was lent is still lent: each reference is to the array that it was to
+pub record SameLoan (x y : StateMut) : Type 0 where
+  pub used : y.used.ghost_name ≡ x.used.ghost_name
+  pub exists : y.exists.ghost_name ≡ x.exists.ghost_name
+  pub ready : y.ready.ghost_name ≡ x.ready.ghost_name
+  pub partitions : y.partitions.ghost_name ≡ x.partitions.ghost_name
+  pub priorities : y.priorities.ghost_name ≡ x.priorities.ghost_name
+  pub masks : y.masks.ghost_name ≡ x.masks.ghost_name
+  pub policies : y.policies.ghost_name ≡ x.policies.ghost_name
+  pub slices : y.slices.ghost_name ≡ x.slices.ghost_name
+  pub queue : y.queue.ghost_name ≡ x.queue.ghost_name
+  pub history : y.history.ghost_name ≡ x.history.ghost_name
+
+-- the same numbers are seen
+pub record Seen (x : StateMut) (y : StateRef) : Type 0 where
+  pub used : y.used.now ≡ x.used.now
+  pub threads : columns_seen y ≡ columns_in x
+  pub queue : y.queue.now ≡ x.queue.now
+  pub history : y.history.now ≡ x.history.now
 
 -- the same with another column, or two
 abbrev pub with_flag_columns : Columns → List ℕ → List ℕ → Columns

@@ -1,5 +1,5 @@
 -- All that a caller lends the doors for a state and its history: arrays of numbers. Which state they stand for, and when it is refused.
-use Rattle.std.specs.Prelude.{◌≡◌, ℕ, ◌*◌, ◌≤◌, ◌<◌, not, cond, ◌&&◌, List, map, ltb, length, get_or}
+use Rattle.std.specs.Prelude.{◌≡◌, ℕ, ◌*◌, ◌≤◌, ◌<◌, not, cond, ◌&&◌, List, [], ◌∷◌, map, ltb, length, get_or}
 use Rattle.lists.specs.Lists.{below}
 use Rattle.units.specs.declared.Percent.{Percent}
 use Rattle.sheet.specs.Settings.{W, within_limits}
@@ -57,6 +57,10 @@ clock_from k =
       queued = get_or k 3 0;
       running = get_or k 4 0;
     }
+
+-- the words that hold a clock
+abbrev pub words_of : Clock → List ℕ
+words_of k = k.stamp ∷ k.slot.0 ∷ k.since.0 ∷ k.queued ∷ k.running ∷ []
 
 abbrev pub lent_settings : Lent → Settings
 lent_settings x = settings_from x.settings x.shares

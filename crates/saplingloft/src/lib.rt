@@ -16,8 +16,8 @@ ghost use Rattle.saplingloft.specs.Interface.{SheetRead, SheetWritten, Remainder
 
 use doors::words;
 use lines::numbers;
-use model::Balance;
-use refusals::Outcome;
+use model::{StateMut, StateRef};
+use refusals::Refusal;
 
 // A fresh start from a sheet's bytes. The answer is the refusal, or 0.
 #[unsafe(no_mangle)]
@@ -41,11 +41,20 @@ pub extern "C" fn saplingloft_lent_start(
         sheet.now result
         (lent settings.new shares.new used.new clock.new (columns exists.new ready.new partitions.new priorities.new masks.new policies.new slices.new) queue.new history.new) }
 {
-    let outcome = doors::start::start(
-        sheet, settings, shares, used, clock, exists, ready, partitions, priorities, masks,
-        policies, slices, queue, history,
-    );
-    numbers::outcome_number(outcome) as u32
+    let mut state = StateMut {
+        used,
+        exists,
+        ready,
+        partitions,
+        priorities,
+        masks,
+        policies,
+        slices,
+        queue,
+        history,
+    };
+    let outcome = doors::start::start(sheet, settings, shares, clock, &mut state);
+    u32::from(numbers::outcome_number(outcome))
 }
 
 // An event of any bytes. The answer holds refusal, mode, partition and thread, a byte each, the refusal lowest.
@@ -70,10 +79,19 @@ pub extern "C" fn saplingloft_lent_event(
         event.now (unpacked result)
         (lent settings.now shares.now used.new clock.new (columns exists.new ready.new partitions.new priorities.new masks.new policies.new slices.new) queue.new history.new) }
 {
-    let verdict = doors::single::event(
-        settings, shares, used, clock, exists, ready, partitions, priorities, masks, policies,
-        slices, queue, history, event,
-    );
+    let mut state = StateMut {
+        used,
+        exists,
+        ready,
+        partitions,
+        priorities,
+        masks,
+        policies,
+        slices,
+        queue,
+        history,
+    };
+    let verdict = doors::single::event(settings, shares, clock, &mut state, event);
     numbers::packed(verdict)
 }
 
@@ -96,21 +114,30 @@ pub extern "C" fn saplingloft_lent_decision(
 ) -> u32
     ensures { unpacked result ≡ Doors.decision (lent settings.now shares.now used.now clock.now (columns exists.now ready.now partitions.now priorities.now masks.now policies.now slices.now) queue.now history.now) }
 {
-    let verdict = doors::queries::decision(
-        settings, shares, used, clock, exists, ready, partitions, priorities, masks, policies,
-        slices, queue, history,
-    );
+    let state = StateRef {
+        used,
+        exists,
+        ready,
+        partitions,
+        priorities,
+        masks,
+        policies,
+        slices,
+        queue,
+        history,
+    };
+    let verdict = doors::queries::decision(settings, shares, clock, state);
     numbers::packed(verdict)
 }
 
 // What remains, told to C: a number of 32 bits, as all that is lent, holds the signed one in two's complement.
-fn tell(balance: Balance, remaining: &mut [u32; 1]) -> u32
+fn tell(balance: Result<i64, Refusal>, remaining: &mut [u32; 1]) -> u32
     requires { Narrow (remainder_of balance).remaining }
     ensures { RemainderTold (remainder_of balance) remaining.old result remaining.new }
 {
     match balance {
-        Balance::Refused(refusal) => refusals::number(refusal) as u32,
-        Balance::Remaining(cycles) => {
+        Err(refusal) => u32::from(u8::from(refusal)),
+        Ok(cycles) => {
             *remaining = [units::word(cycles)];
             0
         }
@@ -141,10 +168,19 @@ pub extern "C" fn saplingloft_lent_remaining(
         (Doors.remainder (lent settings.now shares.now used.now clock.now (columns exists.now ready.now partitions.now priorities.now masks.now policies.now slices.now) queue.now history.now) partition)
         remaining.old result remaining.new }
 {
-    let balance = doors::queries::remaining(
-        settings, shares, used, clock, exists, ready, partitions, priorities, masks, policies,
-        slices, queue, history, partition,
-    );
+    let state = StateRef {
+        used,
+        exists,
+        ready,
+        partitions,
+        priorities,
+        masks,
+        policies,
+        slices,
+        queue,
+        history,
+    };
+    let balance = doors::queries::remaining(settings, shares, clock, state, partition);
     tell(balance, remaining)
 }
 
@@ -158,14 +194,12 @@ pub extern "C" fn saplingloft_lent_read_sheet(
     ensures { SheetRead sheet.now settings.old shares.old result settings.new shares.new }
 {
     let reading = sheet::read_sheet(sheet);
-    let outcome = reading.outcome;
-    match outcome {
-        Outcome::Refused(refusal) => refusals::number(refusal) as u32,
-        Outcome::Accepted => {
-            let s = reading.settings;
-            words::keep_settings(settings, shares, s);
+    match reading.outcome {
+        Ok(()) => {
+            words::keep_settings(settings, shares, reading.settings);
             0
         }
+        Err(refused) => u32::from(u8::from(refused)),
     }
 }
 
@@ -178,8 +212,6 @@ pub extern "C" fn saplingloft_lent_write_sheet(
 ) -> u32
     ensures { SheetWritten settings.now shares.now sheet.old result sheet.new }
 {
-    let s = words::settings_in(settings, shares);
-    let writing = sheet::write_sheet(s, sheet);
-    let outcome = writing.outcome;
-    numbers::outcome_number(outcome) as u32
+    let writing = sheet::write_sheet(words::settings_in(settings, shares), sheet);
+    u32::from(numbers::outcome_number(writing.outcome))
 }

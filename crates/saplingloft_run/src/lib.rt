@@ -6,6 +6,7 @@ ghost use Rattle.model.specs.Arrays.{columns};
 ghost use Rattle.doors.specs.Doors.{Ran};
 
 use lines::numbers;
+use model::StateMut;
 
 // Every record of the events that has room for its line of twelve bytes. The answer is the refusal, or 0.
 #[unsafe(no_mangle)]
@@ -31,9 +32,18 @@ pub extern "C" fn saplingloft_lent_run(
         (lent settings.now shares.now used.new clock.new (columns exists.new ready.new partitions.new priorities.new masks.new policies.new slices.new) queue.new history.new)
         lines.new }
 {
-    let outcome = doors::batch::run(
-        settings, shares, used, clock, exists, ready, partitions, priorities, masks, policies,
-        slices, queue, history, events, lines,
-    );
-    numbers::outcome_number(outcome) as u32
+    let mut state = StateMut {
+        used,
+        exists,
+        ready,
+        partitions,
+        priorities,
+        masks,
+        policies,
+        slices,
+        queue,
+        history,
+    };
+    let outcome = doors::batch::run(settings, shares, clock, &mut state, events, lines);
+    u32::from(numbers::outcome_number(outcome))
 }

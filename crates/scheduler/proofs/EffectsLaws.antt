@@ -1,6 +1,6 @@
 -- What the steps of an accepted event need, and their result as the model's.
 use mathlib.Core.Logic.{◌≢◌}
-use mathlib.Core.Path.{◌≡◌, refl, sym, ap, subst, ◌∙◌}
+use mathlib.Core.Path.{◌≡◌, refl, sym, ap, subst, transport, ◌∙◌}
 use Prim.Native.Nat.{ℕ, ◌+◌, ◌*◌, ◌≤◌, ◌<◌}
 use mathlib.Core.Bool.{Bool, true, cond}
 use mathlib.Core.List.{List, [], ◌∷◌, ◌++◌}
@@ -23,13 +23,14 @@ use Rattle.model.specs.Event
 use Rattle.model.specs.Event.{kind_of, thread_of, stamp_of}
 use Rattle.model.specs.Facts.{Settled}
 use Rattle.model.specs.Slices.{spent, ends}
-use Rattle.model.specs.Step.{Saved, saved, billed, charge, move_slot, to_tail, turned, sliced, ticked, restart, act, apply}
-use Rattle.model.specs.Arrays.{Columns, with_slice_column, Regular, tables_in, with_tables, state_of}
+use Rattle.model.specs.Step.{Saved, saved, charge, move_slot, to_tail, turned, sliced, ticked, restart, act, apply}
+use Rattle.model.specs.Arrays.{Columns, Seen, with_slice_column, Regular, tables_in, with_tables, state_of}
 use Rattle.model.specs.declared.Clock.{Clock}
+use Rattle.model.specs.declared.StateMut.{StateMut}
+use Rattle.model.specs.declared.StateRef.{StateRef}
 use Rattle.model.proofs.Bounds.{running_inside, charge_fits, total_fits, next_inside}
 use Rattle.model.proofs.Table.{thread_at_law, threads_length}
 use Rattle.invariants.proofs.Acts.{act_settled}
-use Rattle.invariants.proofs.Charges.{used_length}
 use Rattle.invariants.proofs.Kept.{charge_settled, length_charge}
 use Rattle.invariants.proofs.Applied.{Left, apply_left}
 use Rattle.invariants.proofs.Turns.{none_above, sliced_queue}
@@ -41,6 +42,7 @@ use Rattle.event.proofs.EventLaws.{known_form}
 use Rattle.threads.specs.Turned.{Turning, Turned}
 use Rattle.threads.proofs.EntriesLaws.{queue_stored}
 use Rattle.threads.proofs.TurnsLaws.{turning_of, spent_idle}
+use Rattle.accounts.specs.Kept.{Priced}
 use Rattle.accounts.specs.Charged.{payer_of, Pays, Payable, Charged}
 use Rattle.accounts.proofs.ChargingLaws.{used_at_law, map_length}
 use Rattle.accounts.specs.Lowered as Slots
@@ -54,7 +56,9 @@ use Rattle.decision.specs.Upkeep.{HeldBy}
 use Rattle.decision.specs.Follow.{Followed, FollowedTurn}
 use Rattle.decision.proofs.LeadsLaws.{tail_kept}
 use Rattle.decision.proofs.States.{lined, partition_is}
+use Rattle.decision.specs.Seen.{queue_seen}
 use Rattle.decision.specs.declared.kept.Sets.{Sets}
+use Rattle.decision.specs.declared.leads.ReadyQueue.{ReadyQueue}
 use Rattle.scheduler.specs.Effects.{Ready, Applied, Ticking, Ticked}
 
 module _ (v : Saved) (b : List ℕ) where
@@ -104,11 +108,7 @@ restart_queued : (v : Saved) (stamp : ℕ) → (restart v stamp).state.queued �
 unfolding restart
 restart_queued v stamp = refl
 
-charge_used_length : (v : Saved) (stamp : ℕ) → length (charge v stamp).state.used ≡ length v.state.used
-unfolding charge
-charge_used_length v stamp = used_length v.state (billed v.state) (elapsed_of stamp v.state.stamp)
-
-module _ (c : Settings) (u : List ℕ) (k : Clock) (ts : Columns) (q h budgets tops firsts : List ℕ) (sets : Sets) (x : Event)
+module _ {c : Settings} {u : List ℕ} {k : Clock} {ts : Columns} {q h budgets tops firsts : List ℕ} {sets : Sets} {x : Event}
     (g : Ready c u k ts q h budgets tops firsts sets x) where
   abbrev p : List ℕ
   p = ts.partitions
@@ -156,7 +156,7 @@ module _ (c : Settings) (u : List ℕ) (k : Clock) (ts : Columns) (q h budgets t
         }
 
     pub payable : Payable c u k p h x.stamp
-    payable = record { sixteen = g.sixteen; since = omega (arith, short, settled.limits.tick_high); pays = pays }
+    payable = record { since = omega (arith, short, settled.limits.tick_high); pays = pays }
 
     charged : Settled (charge v x.stamp).state (charge v x.stamp).history
     charged =
@@ -171,16 +171,14 @@ module _ (c : Settings) (u : List ℕ) (k : Clock) (ts : Columns) (q h budgets t
     -- ---- a tick
 
     movable : (u' : List ℕ) (k' : Clock) (h' : List ℕ) → Charged c u k p h u' k' h' x.stamp
-        → (length u' ≡ 16) × (k'.slot.0 < W c) × Slots.Covered u' h' (W c) c.count (next_of k'.slot.0 (W c))
+        → (k'.slot.0 < W c) × Slots.Covered u' h' (W c) c.count (next_of k'.slot.0 (W c))
     movable u' k' h' d =
         let y : Saved = saved (state_of c u' k' ts q) h' in
         let same : y ≡ charge v x.stamp = d ts q in
         let fine : Settled y.state y.history = subst (λ (z : Saved). Settled z.state z.history) (sym same) charged in
         let room : wanted y.state ≤ length y.history = subst (λ (z : Saved). wanted z.state ≤ length z.history) (sym same) charged_room in
-        let wide : length y.state.used ≡ 16 = ap (λ (z : Saved). length z.state.used) same ∙ charge_used_length v x.stamp ∙ lengths.used in
         let inside : k'.slot.0 < W c = fine.books.inside in
         let inside' : next_of k'.slot.0 (W c) < W c = next_inside y.state inside in (
-          sym (map_length u') ∙ wide,
           inside,
           record {
             few = fine.limits.count_high;
@@ -193,16 +191,14 @@ module _ (c : Settings) (u : List ℕ) (k : Clock) (ts : Columns) (q h budgets t
     pub ticking : Ticking c u k p h x.stamp
     ticking = record { payable = payable; movable = movable }
 
-  pub weighed : (u' : List ℕ) (set' : ℕ) → Reweighed u u' budgets (need c) sets.solvent set' → WeighedIn u' budgets (need c) c.count set'
-  weighed u' set' w = w c.count settled.limits.count_high g.held.weighed
-
-  -- what is kept, where threads and queue stay
-  stays : (u' : List ℕ) (k' : Clock) (set' : ℕ) → k'.queued ≡ k.queued → WeighedIn u' budgets (need c) c.count set'
-      → HeldBy c u' k' ts q budgets tops firsts (record { paying = sets.paying; competing = sets.competing; solvent = set' })
-  stays u' k' set' i w = record {
-    priced = g.held.priced;
-    led = subst (λ (j : ℕ). KeptIn c.core p ts.priorities ts.masks (take j q) tops firsts sets.competing) (sym i) g.held.led;
-    weighed = w;
+  -- what is kept, where of it the budgets stay, and who has one above 0
+  kept_by : (u' : List ℕ) (k' : Clock) (ts' : Columns) (q' : List ℕ) {budgets' tops' firsts' : List ℕ} {sets' : Sets} → budgets' ≡ budgets → sets'.paying ≡ sets.paying
+      → Reweighed u u' budgets (need c) sets.solvent sets'.solvent → KeptIn c.core ts'.partitions ts'.priorities ts'.masks (take k'.queued q') tops' firsts' sets'.competing
+      → HeldBy c u' k' ts' q' budgets' tops' firsts' sets'
+  kept_by u' k' ts' q' {sets' = sets'} same payers w led = record {
+    priced = transport (λ i. Priced c (sym same i) (sym payers i)) g.held.priced;
+    led = led;
+    weighed = subst (λ (l : List ℕ). WeighedIn u' l (need c) c.count sets'.solvent) (sym same) (w c.count settled.limits.count_high g.held.weighed);
   }
 
   -- ---- a tick's slice
@@ -295,26 +291,29 @@ module _ (c : Settings) (u : List ℕ) (k : Clock) (ts : Columns) (q h budgets t
         home : ended ≡ true → get_or p k.running 0 < 16
         home t = omega (arith, (there t).1, partition_is c u k ts q g.sizes k.running, settled.limits.count_high)
 
-    pub tick_applied : (set' competing' : ℕ) (tops' firsts' : List ℕ) → Reweighed u u' budgets (need c) sets.solvent set'
-        → KeptIn c.core p ts.priorities ts.masks (take k.queued q') tops' firsts' competing'
-        → Applied c v u' k' later q' h' budgets tops' firsts' (record { paying = sets.paying; competing = competing'; solvent = set' }) b
-    tick_applied set' competing' tops' firsts' w led = record {
+    pub tick_applied : {budgets' tops' firsts' : List ℕ} {sets' : Sets} → budgets' ≡ budgets → sets'.paying ≡ sets.paying
+        → Reweighed u u' budgets (need c) sets.solvent sets'.solvent → KeptIn c.core p ts.priorities ts.masks (take k.queued q') tops' firsts' sets'.competing
+        → Applied c v u' k' later q' h' budgets' tops' firsts' sets' b
+    tick_applied {tops' = tops'} {firsts' = firsts'} {sets' = sets'} same payers w led = record {
       state = tick_state;
       sizes = regular_later;
-      held = record {
-        priced = g.held.priced;
-        led = subst (λ (j : ℕ). KeptIn c.core p ts.priorities ts.masks (take j q') tops' firsts' competing') (sym same_queued) led;
-        weighed = weighed u' set' w;
-      };
+      held = kept_by u' k' later q' same payers w (subst (λ (j : ℕ). KeptIn c.core p ts.priorities ts.masks (take j q') tops' firsts' sets'.competing) (sym same_queued) led);
     }
 
-  pub resumed : kind_of b ≡ 7 → (u' : List ℕ) (k' : Clock) (h' : List ℕ) (set' : ℕ) → Restarted c u k h u' k' h' x.stamp → WeighedIn u' budgets (need c) c.count set'
+  pub resumed : kind_of b ≡ 7 → (u' : List ℕ) (k' : Clock) (h' : List ℕ) {set' : ℕ} → Restarted c u k h u' k' h' x.stamp → WeighedIn u' budgets (need c) c.count set'
       → Applied c v u' k' ts q h' budgets tops firsts (record { paying = sets.paying; competing = sets.competing; solvent = set' }) b
-  resumed i u' k' h' set' d w = record {
+  resumed i u' k' h' d w = record {
     state = d ts q ∙ ap (λ (j : ℕ). restart v j) g.stamped ∙ applied_resume v b i;
     sizes = g.sizes;
-    held = stays u' k' set' (ap (λ (z : Saved). z.state.queued) (d ts q) ∙ restart_queued v x.stamp) w;
+    held = record {
+      priced = g.held.priced;
+      led = subst (λ (j : ℕ). KeptIn c.core p ts.priorities ts.masks (take j q) tops firsts sets.competing) (sym (same_queued)) g.held.led;
+      weighed = w;
+    };
   }
+    where
+      same_queued : k'.queued ≡ k.queued
+      same_queued = ap (λ (z : Saved). z.state.queued) (d ts q) ∙ restart_queued v x.stamp
 
   -- ---- the action
 
@@ -384,15 +383,27 @@ module _ (c : Settings) (u : List ℕ) (k : Clock) (ts : Columns) (q h budgets t
         kept = g.held.led;
       }
 
-      pub applied : (tops' firsts' : List ℕ) (set' solvent' : ℕ) → Reweighed u u' budgets (need c) sets.solvent solvent' → KeptIn c.core ts'.partitions ts'.priorities ts'.masks (take i q') tops' firsts' set'
-          → Applied c v u' (with_queued k' i) ts' q' h' budgets tops' firsts' (record { paying = sets.paying; competing = set'; solvent = solvent' }) b
-      applied tops' firsts' set' solvent' w l = record {
-        state = worked;
-        sizes = sized;
-        held = record { priced = g.held.priced; led = l; weighed = weighed u' solvent' w };
-      }
+      pub applied : {budgets' tops' firsts' : List ℕ} {sets' : Sets} → budgets' ≡ budgets → sets'.paying ≡ sets.paying
+          → Reweighed u u' budgets (need c) sets.solvent sets'.solvent → KeptIn c.core ts'.partitions ts'.priorities ts'.masks (take i q') tops' firsts' sets'.competing
+          → Applied c v u' (with_queued k' i) ts' q' h' budgets' tops' firsts' sets' b
+      applied same payers w led = record { state = worked; sizes = sized; held = kept_by u' (with_queued k' i) ts' q' same payers w led }
 
 -- ---- what a kind is not
 
 pub not_resume : (x : Event) → kind_of (bytes_of x) ≡ 1 → kind_of (bytes_of x) ≢ 7
 not_resume x e z = omega (arith, e, z)
+
+-- ---- a queue that was made from what is lent
+
+module _ {x : StateMut} {s : StateRef} (seen : Seen x s) {q : ReadyQueue} {n core : ℕ} (made : q ≡ queue_seen s n core)
+    (P : (core : ℕ) (partitions priorities masks queue : List ℕ) (queued : ℕ) → Type 0) where
+  same_queue : P core x.partitions.now x.priorities.now x.masks.now x.queue.now n ≡ P q.core q.partitions.now q.priorities.now q.masks.now q.queue.now q.queued
+  same_queue =
+      (λ i. P core (sym seen.threads i).partitions (sym seen.threads i).priorities (sym seen.threads i).masks (sym seen.queue i) n)
+      ∙ (λ i. let y : ReadyQueue = sym made i in P y.core y.partitions.now y.priorities.now y.masks.now y.queue.now y.queued)
+
+  pub to_queue : P core x.partitions.now x.priorities.now x.masks.now x.queue.now n → P q.core q.partitions.now q.priorities.now q.masks.now q.queue.now q.queued
+  to_queue = transport same_queue
+
+  pub of_queue : P q.core q.partitions.now q.priorities.now q.masks.now q.queue.now q.queued → P core x.partitions.now x.priorities.now x.masks.now x.queue.now n
+  of_queue = transport (sym same_queue)

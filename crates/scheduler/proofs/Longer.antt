@@ -1,12 +1,11 @@
 -- A run, one record more: its records, its state and history, its lines.
 use mathlib.Core.Path.{◌≡◌, refl, sym, ap, ap₂, ◌∙◌}
-use Prim.Native.Nat.{ℕ, suc, ◌+◌, ◌-◌, ◌*◌, ◌≤◌, min}
+use Prim.Native.Nat.{ℕ, suc, ◌+◌, ◌*◌}
 use mathlib.Core.List.{List, [], ◌∷◌, ◌++◌, map-append, append_assoc, append-nil}
-use lib.ListN.{length, take, drop, length-append, length-drop}
-use lib.Seq.{take_all, take_at, drop_at, drop-drop}
+use lib.ListN.{length, take, drop, length-append}
+use lib.Seq.{take_at, drop_at, drop-drop}
 use native.Mathlib.Omega.{arith}
 use native.Mathlib.Numerals.{add-one}
-use native.Mathlib.Decide.{dec_le}
 use Rattle.lists.specs.Lists.{below}
 use Rattle.lists.proofs.Tables.{table_length}
 use Rattle.sheet.specs.Records.{digits_of}
@@ -20,19 +19,6 @@ use Rattle.model.specs.Stream.{event_at, events_in, lines_of}
 pub records_more : (bytes : List ℕ) (i : ℕ) → events_in bytes (i + 1) ≡ events_in bytes i ++ (event_at bytes i ∷ [])
 unfolding below
 records_more bytes i = rw add-one (map-append (event_at bytes) (below i) (i ∷ []))
-
--- the part of the events that is lent for record i
-pub record_part : (bytes : List ℕ) (i e : ℕ) → e ≡ min (12 * i + 12) (length bytes) → take (e - 12 * i) (drop (12 * i) bytes) ≡ event_at bytes i
-record_part bytes i e h = go (dec_le (12 * i + 12) (length bytes))
-  where
-    rest : List ℕ
-    rest = drop (12 * i) bytes
-
-    go : Dec (12 * i + 12 ≤ length bytes) → take (e - 12 * i) rest ≡ take 12 rest
-    go (yes b) = let w : e - 12 * i ≡ 12 = omega arith in ap (λ (n : ℕ). take n rest) w
-    go (no b) =
-        let w : e ≡ length bytes = omega arith in
-        take_all (e - 12 * i) rest (rw length-drop (omega arith)) ∙ sym (take_all 12 rest (rw length-drop (omega arith)))
 
 -- ---- states
 

@@ -9,10 +9,9 @@ use lib.ListN.{length, get_or}
 use native.Mathlib.Omega.{arith}
 use lib.Dec.{eqb}
 use borrow.Author.Tests.{eqb-false}
+use Rattle.std.specs.Prelude.{Result, Ok, Err}
 use Rattle.refusals.specs.Refusals.{number_of, outcome_of}
 use Rattle.refusals.specs.declared.Refusal.{Refusal}
-use Rattle.refusals.specs.declared.Outcome.{Outcome}
-use Rattle.refusals.specs.declared.Outcome.TheVariants.{Accepted, Refused}
 use Rattle.refusals.proofs.Laws.{never_zero}
 use Rattle.sheet.specs.declared.Settings.{Settings}
 use Rattle.model.specs.Answers.{decided_of, line_of, answer_line}
@@ -25,15 +24,15 @@ use Rattle.model.specs.Step.{Saved, saved, with_running, favoured, settle, apply
 use Rattle.model.specs.State.{thread, idle, State}
 use Rattle.model.specs.declared.Clock.{Clock}
 use Rattle.model.specs.declared.Decision.{Decision}
-use Rattle.model.specs.declared.Verdict.TheVariants as verdict
 use Rattle.model.proofs.Accepted.{fit_of, of_fit, accepted_of_law}
 use Rattle.model.proofs.Flags.{as_state}
 use Rattle.model.proofs.Table.{threads_length}
 use Rattle.invariants.proofs.Answered.{Good, good_answer}
 use Rattle.invariants.proofs.Decision.{decide_works}
 use Rattle.accounts.proofs.ChargingLaws.{map_length}
-use Rattle.event.specs.Bytes.{bytes_of}
+use Rattle.event.specs.Bytes.{bytes_of, DecodedFrom}
 use Rattle.event.specs.declared.Event.{Event}
+use Rattle.admission.specs.Tests.{RefusesAll, AcceptsAs}
 use Rattle.decision.specs.Decides.{Favoured}
 use Rattle.decision.specs.Upkeep.{HeldBy, works_for, worked_for, DecidesKept}
 use Rattle.decision.proofs.States.{partition_is}
@@ -41,7 +40,7 @@ use Rattle.decision.proofs.UpkeepLaws as Upkeep
 use Rattle.decision.specs.declared.kept.Sets.{Sets}
 use Rattle.scheduler.specs.Effects.{Ready, Applied}
 use Rattle.scheduler.proofs.EffectsLaws.{left}
-use Rattle.scheduler.specs.Stepping.{Whole, StepAnswered, Same}
+use Rattle.scheduler.specs.Stepping.{Whole, StepAnswered}
 
 -- ---- the answers
 
@@ -50,7 +49,7 @@ module _ (s : State) (h b : List ℕ) where
   unfolding refused
   refused_by_event e = rw e
 
-  line_no : (r : Refusal) → refused s h b ≡ number_of r → line_of (verdict.Refused r) ≡ answer_line (answer (saved s h) b)
+  line_no : (r : Refusal) → refused s h b ≡ number_of r → line_of (Err r) ≡ answer_line (answer (saved s h) b)
   unfolding answer
   line_no r e = rw (e, never_zero r)
 
@@ -58,7 +57,7 @@ module _ (s : State) (h b : List ℕ) where
   unfolding answer
   after_no r e = rw (e, never_zero r)
 
-  line_yes : refused s h b ≡ 0 → (y : Saved) (d : Decision) → y ≡ apply (saved s h) b → decided_of d ≡ decide y.state (favoured s) → line_of (verdict.Decided d) ≡ answer_line (answer (saved s h) b)
+  line_yes : refused s h b ≡ 0 → (y : Saved) (d : Decision) → y ≡ apply (saved s h) b → decided_of d ≡ decide y.state (favoured s) → line_of (Ok d) ≡ answer_line (answer (saved s h) b)
   unfolding answer settle
   line_yes e y d f g = rw (e, ← f, ← g)
 
@@ -71,7 +70,7 @@ module _ (s : State) (h b : List ℕ) where
   unfolding answer
   answer_zero e = rw e
 
-module _ (c : Settings) (u : List ℕ) (k : Clock) (ts : Columns) (q h budgets tops firsts : List ℕ) (sets : Sets) (set : ℕ)
+module _ {c : Settings} {u : List ℕ} {k : Clock} {ts : Columns} {q h budgets tops firsts : List ℕ} {sets : Sets} {set : ℕ}
     (g : Whole c u k ts q h budgets tops firsts sets set) where
   abbrev s : State
   s = state_of c u k ts q
@@ -91,11 +90,11 @@ module _ (c : Settings) (u : List ℕ) (k : Clock) (ts : Columns) (q h budgets t
   }
 
   -- the invariant after an event
-  whole_after : (b u' : List ℕ) (k' : Clock) (ts' : Columns) (q' h' tops' firsts' : List ℕ) (sets' : Sets) (set' : ℕ)
+  whole_after : (b u' : List ℕ) (k' : Clock) (ts' : Columns) (q' h' budgets' tops' firsts' : List ℕ) (sets' : Sets) (set' : ℕ)
       → saved (state_of c u' k' ts' q') h' ≡ (answer v b).after → Regular ts'
-      → HeldBy c u' k' ts' q' budgets tops' firsts' sets' → Favoured (worked_for ts'.partitions k'.running) set'
-      → Whole c u' k' ts' q' h' budgets tops' firsts' sets' set'
-  whole_after b u' k' ts' q' h' tops' firsts' sets' set' same sized held favours =
+      → HeldBy c u' k' ts' q' budgets' tops' firsts' sets' → Favoured (worked_for ts'.partitions k'.running) set'
+      → Whole c u' k' ts' q' h' budgets' tops' firsts' sets' set'
+  whole_after b u' k' ts' q' h' budgets' tops' firsts' sets' set' same sized held favours =
       let a : Good c (answer v b).after = good_answer c v b good in
       record {
         sixteen = sym (map_length u') ∙ ap (λ (z : Saved). length z.state.used) same ∙ a.lengths.used;
@@ -107,26 +106,29 @@ module _ (c : Settings) (u : List ℕ) (k : Clock) (ts : Columns) (q h budgets t
         favours = favours;
       }
 
-  -- ---- a refusal
+  -- ---- an event of the bytes b, as it was decoded and admitted
 
-  no : (b : List ℕ) (x : Refusal) → refused_event s b ≡ number_of x → StepAnswered c v b (verdict.Refused x) u k ts q h budgets tops firsts sets set
-  no b x f =
-      let z = refused_by_event s h b g.taken ∙ f in
-      record { line = line_no s h b x z; after = after_no s h b x z; whole = g }
+  module _ {b : List ℕ} {d : Result Event Refusal} (from : DecodedFrom b d) (o : Result Event Refusal) (tested : RefusesAll c k ts.exists ts.ready d o) where
+    number : outcome_of o ≡ refused_event s b
+    number = tested b from u ts q
 
-  pub no_event : (b : List ℕ) (o : Outcome) (x : Refusal) → o ≡ Refused x → outcome_of o ≡ refused_event s b → StepAnswered c v b (verdict.Refused x) u k ts q h budgets tops firsts sets set
-  no_event b o x f i = no b x (sym i ∙ ap outcome_of f)
+    pub no_event : {x : Refusal} → o ≡ Err x → StepAnswered c v b (Err x) u k ts q h budgets tops firsts sets set
+    no_event {x} is =
+        let z : refused s h b ≡ number_of x = refused_by_event s h b g.taken ∙ sym number ∙ ap outcome_of is in
+        record { line = line_no s h b x z; after = after_no s h b x z; whole = g }
 
-  pub same : (k' : Clock) → k' ≡ k → Same u k ts q h u k' ts q h
-  same k' i = record { totals = refl; clock = i; threads = refl; queue = refl; history = refl }
+    module _ (same : AcceptsAs d o) (x : Event) (yes : o ≡ Ok x) where
+      taken : refused s h b ≡ 0
+      taken = refused_by_event s h b g.taken ∙ sym number ∙ ap outcome_of yes
 
-  -- ---- an accepted event
+      bytes_are : b ≡ bytes_of x
+      bytes_are = from.bytes x (same x yes)
 
-  pub taken_still : (b b' : List ℕ) → b ≡ b' → refused s h b' ≡ 0 → (answer v b).refusal ≢ 0 → ⊥
-  taken_still b b' i f no = no (ap (λ (l : List ℕ). (answer v l).refusal) i ∙ answer_zero s h b' f)
+      pub taken_event : (refused s h (bytes_of x) ≡ 0) × (x.stamp ≡ stamp_of (bytes_of x))
+      taken_event = (ap (refused s h) (sym bytes_are) ∙ taken, from.stamp x (same x yes) ∙ ap stamp_of bytes_are)
 
-  pub taken_event : (b : List ℕ) (o : Outcome) → o ≡ Accepted → outcome_of o ≡ refused_event s b → refused s h b ≡ 0
-  taken_event b o f i = refused_by_event s h b g.taken ∙ sym i ∙ ap outcome_of f
+      pub taken_still : (answer v b).refusal ≢ 0 → ⊥
+      taken_still n = n (answer_zero s h b taken)
 
   module _ (x : Event) (yes : refused s h (bytes_of x) ≡ 0) (stamped : x.stamp ≡ stamp_of (bytes_of x)) where
     pub ready : Ready c u k ts q h budgets tops firsts sets x
@@ -140,13 +142,13 @@ module _ (c : Settings) (u : List ℕ) (k : Clock) (ts : Columns) (q h budgets t
       held = g.held;
     }
 
-    module _ (u' : List ℕ) (k' : Clock) (ts' : Columns) (q' h' tops' firsts' : List ℕ) (sets' : Sets) (d : Decision)
-        (a : Applied c v u' k' ts' q' h' budgets tops' firsts' sets' (bytes_of x)) (w : DecidesKept c u' budgets tops' firsts' sets' set d) where
+    module _ {u' : List ℕ} {k' : Clock} {ts' : Columns} {q' h' budgets' tops' firsts' : List ℕ} {sets' : Sets} (d : Decision)
+        (a : Applied c v u' k' ts' q' h' budgets' tops' firsts' sets' (bytes_of x)) (w : DecidesKept c u' budgets' tops' firsts' sets' set d) where
       abbrev y : Saved
       y = saved (state_of c u' k' ts' q') h'
 
       fine : Settled y.state y.history
-      fine = subst (λ (z : Saved). Settled z.state z.history) (sym a.state) (left c u k ts q h budgets tops firsts sets x ready).settled
+      fine = subst (λ (z : Saved). Settled z.state z.history) (sym a.state) (left ready).settled
 
       -- the decision is that of the model, with the favoured partition of the state that the event found
       same_decision : decided_of d ≡ decide y.state (favoured s)
@@ -172,14 +174,14 @@ module _ (c : Settings) (u : List ℕ) (k : Clock) (ts : Columns) (q h budgets t
           go false e = ap some (works_for_law (eqb-false d.thread idle e)).0
 
       pub decided : (next : ℕ) → Favoured (works_for d.thread d.partition) next
-          → StepAnswered c v (bytes_of x) (verdict.Decided d) u' (record { stamp = k'.stamp; slot = k'.slot; since = k'.since; queued = k'.queued; running = d.thread })
-          ts' q' h' budgets tops' firsts' sets' next
+          → StepAnswered c v (bytes_of x) (Ok d) u' (record { stamp = k'.stamp; slot = k'.slot; since = k'.since; queued = k'.queued; running = d.thread })
+          ts' q' h' budgets' tops' firsts' sets' next
       decided next f =
           let b = bytes_of x in
           let then = after_yes s h b yes y d a.state same_decision in
           record {
             line = line_yes s h b yes y d a.state same_decision;
             after = then;
-            whole = whole_after b u' (record { stamp = k'.stamp; slot = k'.slot; since = k'.since; queued = k'.queued; running = d.thread }) ts' q' h' tops' firsts' sets' next then a.sizes a.held
+            whole = whole_after b u' (record { stamp = k'.stamp; slot = k'.slot; since = k'.since; queued = k'.queued; running = d.thread }) ts' q' h' budgets' tops' firsts' sets' next then a.sizes a.held
                 (subst (λ (o : Option ℕ). Favoured o next) (sym favours_next) f);
           }

@@ -4,7 +4,8 @@ use Rattle.units.specs.Units.{next_of}
 use Rattle.sheet.specs.Settings.{W}
 use Rattle.sheet.specs.declared.Settings.{Settings}
 use Rattle.model.specs.declared.Clock.{Clock}
-use Rattle.model.specs.Arrays.{Columns, with_partition_column, Regular, state_of}
+use Rattle.model.specs.declared.StateMut.{StateMut}
+use Rattle.model.specs.Arrays.{Columns, columns_in, with_partition_column, Regular, state_of}
 use Rattle.model.specs.Event.{stamp_of}
 use Rattle.model.specs.Facts.{Accepted}
 use Rattle.model.specs.Step.{Saved, saved, charge, move_slot, apply}
@@ -12,7 +13,9 @@ use Rattle.event.specs.Bytes.{bytes_of}
 use Rattle.event.specs.declared.Event.{Event}
 use Rattle.accounts.specs.Charged.{Payable, Charged}
 use Rattle.accounts.specs.Lowered as Slots
+use Rattle.decision.specs.Leads.{tops_of, firsts_of}
 use Rattle.decision.specs.Upkeep.{HeldBy}
+use Rattle.decision.specs.declared.kept.Cache.{Cache}
 use Rattle.decision.specs.declared.kept.Sets.{Sets}
 
 -- an accepted event, and what is kept
@@ -35,9 +38,23 @@ pub record Applied (c : Settings) (v : Saved) (u : List ℕ) (k : Clock) (ts : C
 pub record Ticking (c : Settings) (u : List ℕ) (k : Clock) (p h : List ℕ) (stamp : ℕ) : Type 0 where
   pub payable : Payable c u k p h stamp
   pub movable : (u' : List ℕ) (k' : Clock) (h' : List ℕ) → Charged c u k p h u' k' h' stamp
-      → (length u' ≡ 16) × (k'.slot.0 < W c) × Slots.Covered u' h' (W c) c.count (next_of k'.slot.0 (W c))
+      → (k'.slot.0 < W c) × Slots.Covered u' h' (W c) c.count (next_of k'.slot.0 (W c))
 
 abbrev pub Ticked : Settings → List ℕ → Clock → List ℕ → List ℕ → List ℕ → Clock → List ℕ → ℕ → Type 0
 Ticked c u k p h u' k' h' stamp =
     (ts : Columns) (q : List ℕ)
     → saved (state_of c u' k' (with_partition_column ts p) q) h' ≡ move_slot (charge (saved (state_of c u k (with_partition_column ts p) q) h) stamp)
+
+-- ---- the same of what is lent, and of what is kept beside it
+
+-- the state and the history that is lent, under a clock
+abbrev pub saved_of : Settings → StateMut → Clock → Saved
+saved_of c x k = saved (state_of c x.used.now k (columns_in x) x.queue.now) x.history.now
+
+abbrev pub ReadyIn : Settings → StateMut → Clock → Cache → Event → Type 0
+ReadyIn c x k cache e =
+    Ready c x.used.now k (columns_in x) x.queue.now x.history.now cache.budgets (tops_of cache.leads) (firsts_of cache.leads) cache.sets e
+
+abbrev pub AppliedIn : Settings → Saved → StateMut → Clock → Cache → List ℕ → Type 0
+AppliedIn c v x k cache b =
+    Applied c v x.used.now k (columns_in x) x.queue.now x.history.now cache.budgets (tops_of cache.leads) (firsts_of cache.leads) cache.sets b

@@ -1,16 +1,18 @@
 -- The invariant of a run over the lent arrays, and what a step is held to.
-use Rattle.std.specs.Prelude.{◌≢◌, ◌≡◌, List, ℕ, length}
+use Rattle.std.specs.Prelude.{◌≢◌, ◌≡◌, List, ℕ, length, Result}
 use Rattle.refusals.specs.declared.Refusal.{Refusal}
 use Rattle.sheet.specs.declared.Settings.{Settings}
 use Rattle.model.specs.Answers.{line_of, answer_line}
 use Rattle.model.specs.Event.{refused_state}
-use Rattle.model.specs.Arrays.{Columns, Regular, state_of}
+use Rattle.model.specs.Arrays.{Columns, columns_in, Regular, state_of}
 use Rattle.model.specs.Step.{Saved, saved, answer}
 use Rattle.model.specs.declared.Clock.{Clock}
-use Rattle.model.specs.declared.Verdict.{Verdict}
-use Rattle.model.specs.declared.Verdict.TheVariants as verdict
+use Rattle.model.specs.declared.Decision.{Decision}
+use Rattle.model.specs.declared.StateMut.{StateMut}
 use Rattle.decision.specs.Decides.{Favoured}
+use Rattle.decision.specs.Leads.{tops_of, firsts_of}
 use Rattle.decision.specs.Upkeep.{HeldBy, worked_for}
+use Rattle.decision.specs.declared.kept.Cache.{Cache}
 use Rattle.decision.specs.declared.kept.Sets.{Sets}
 use Rattle.scheduler.specs.declared.Stepped.{Stepped}
 
@@ -26,7 +28,7 @@ pub record Whole (c : Settings) (u : List ℕ) (k : Clock) (ts : Columns) (q h b
   pub favours : Favoured (worked_for ts.partitions k.running) favoured
 
 -- the event b was answered on v as the model says, and the invariant holds again
-pub record StepAnswered (c : Settings) (v : Saved) (b : List ℕ) (x : Verdict) (u : List ℕ) (k : Clock) (ts : Columns) (q h budgets tops firsts : List ℕ) (sets : Sets) (favoured : ℕ) : Type 0 where
+pub record StepAnswered (c : Settings) (v : Saved) (b : List ℕ) (x : Result Decision Refusal) (u : List ℕ) (k : Clock) (ts : Columns) (q h budgets tops firsts : List ℕ) (sets : Sets) (favoured : ℕ) : Type 0 where
   pub line : line_of x ≡ answer_line (answer v b)
   pub after : saved (state_of c u k ts q) h ≡ (answer v b).after
   pub whole : Whole c u k ts q h budgets tops firsts sets favoured
@@ -42,5 +44,17 @@ pub record Same (u : List ℕ) (k : Clock) (ts : Columns) (q h u' : List ℕ) (k
 abbrev pub Still : Saved → List ℕ → List ℕ → Clock → Columns → List ℕ → List ℕ → List ℕ → Clock → Columns → List ℕ → List ℕ → Type 0
 Still v b u k ts q h u' k' ts' q' h' = (answer v b).refusal ≢ 0 → Same u k ts q h u' k' ts' q' h'
 
-abbrev pub refused_by : Refusal → Clock → Sets → ℕ → Stepped
-refused_by r k s f = record { verdict = verdict.Refused r; clock = k; sets = s; favoured = f }
+-- ---- the same of what is lent, and of what is kept beside it
+
+abbrev pub WholeIn : Settings → StateMut → Clock → Cache → ℕ → Type 0
+WholeIn c x k cache favoured =
+    Whole c x.used.now k (columns_in x) x.queue.now x.history.now cache.budgets (tops_of cache.leads) (firsts_of cache.leads) cache.sets favoured
+
+abbrev pub StepAnsweredIn : Settings → Saved → List ℕ → StateMut → Cache → Stepped → Type 0
+StepAnsweredIn c v b x cache s =
+    StepAnswered c v b s.verdict x.used.now s.clock (columns_in x) x.queue.now x.history.now
+    cache.budgets (tops_of cache.leads) (firsts_of cache.leads) cache.sets s.favoured
+
+abbrev pub StillIn : Saved → List ℕ → StateMut → Clock → StateMut → Clock → Type 0
+StillIn v b x k y k' =
+    Still v b x.used.now k (columns_in x) x.queue.now x.history.now y.used.now k' (columns_in y) y.queue.now y.history.now

@@ -1,7 +1,7 @@
 -- Laws of the digits: one more digit read or written, and the round trips.
 use mathlib.Core.Path.{◌≡◌, refl, sym, ap, ◌∙◌}
 use mathlib.Core.List.{List, [], ◌∷◌, ◌++◌, append_assoc, append-nil}
-use mathlib.Core.Bool.{true, false}
+use mathlib.Core.Bool.{Bool, true, false, cond}
 use Prim.Native.Nat.{ℕ, zero, suc, ◌+◌, ◌-◌, ◌*◌, ◌/◌, ◌%◌, ◌^◌, ◌<◌, ◌≤◌}
 use native.Mathlib.Nat.{pow-suc, mul_assoc, div-div-eq-div-mul, mul_comm}
 use native.Mathlib.Numerals.{add-one}
@@ -10,7 +10,7 @@ use native.Mathlib.Decide.{dec_le}
 use borrow.Author.Tests.{le-leb, lt-leb}
 use lib.ListN.{length, get_or, drop, set, drop_of_length-le, length-set}
 use lib.Seq.{drop-cons, get_or-set_same, drop-set-lt}
-use Rattle.sheet.specs.Records.{Said, says, wrong_form, is_digit, number_from, digits_of}
+use Rattle.sheet.specs.Records.{Said, says, wrong_form, accepted, is_digit, number_from, digits_of}
 
 pub digit_yes : (b : ℕ) → 48 ≤ b → b ≤ 57 → is_digit b ≡ true
 digit_yes b h k = rw (le-leb 48 b h, le-leb b 57 k)
@@ -46,6 +46,17 @@ number_cons v b l e = rw e
 
 pub no_value : {v : ℕ} → says v ≡ wrong_form → ⊥
 no_value e = let z : ◌≡◌ {A = ℕ} 0 2 = ap (λ (s : Said). s.refusal) e in omega arith
+
+-- what is no number is refused for its form
+pub refused_form : (v : ℕ) (l : List ℕ) → accepted (number_from v l) ≡ false → number_from v l ≡ wrong_form
+unfolding number_from
+refused_form v [] e = cc
+refused_form v (b ∷ l) e = go (is_digit b) (refused_form (v * 10 + (b - 48)) l) e
+  where
+    go : (z : Bool) → (accepted (number_from (v * 10 + (b - 48)) l) ≡ false → number_from (v * 10 + (b - 48)) l ≡ wrong_form)
+        → accepted (cond z (number_from (v * 10 + (b - 48)) l) wrong_form) ≡ false → cond z (number_from (v * 10 + (b - 48)) l) wrong_form ≡ wrong_form
+    go true ih e = ih e
+    go false ih e = refl
 
 -- reading what was written, with l after it
 read_on : (n v a : ℕ) (l : List ℕ) → v < 10 ^ n → number_from a (digits_of n v ++ l) ≡ number_from (a * 10 ^ n + v) l

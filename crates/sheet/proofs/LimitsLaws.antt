@@ -1,13 +1,21 @@
 -- Laws of the number by which the numbers of a sheet are refused.
 use mathlib.Core.Logic.{◌≢◌}
-use mathlib.Core.Path.{◌≡◌, refl}
-use Prim.Native.Nat.{ℕ, ◌≤◌, ◌<◌}
+use mathlib.Core.Path.{◌≡◌, refl, ap}
+use Prim.Native.Nat.{ℕ, zero, suc, ◌+◌, ◌≤◌, ◌<◌}
 use mathlib.Core.Bool.{Bool, true, false, not, cond, ◌&&◌, ◌||◌, or-true}
 use lib.Dec.{eqb, leb}
 use borrow.Author.Tests.{eqb-true, eqb-false, eq-eqb, ne_eqb, leb-true, le-leb, lt-leb, not-false}
 use native.Mathlib.Omega.{arith}
+use mathlib.Core.List.{List, [], ◌∷◌}
+use lib.ListN.{length, take}
+use lib.Seq.{length-take-le, get_or-take}
+use Rattle.std.specs.List.{sum_by}
+use Rattle.std.proofs.lemmas.List.Sums.{sum_by-cons}
+use Rattle.lists.specs.Lists.{total}
+use Rattle.lists.proofs.Sums.{total_ext}
 use Rattle.lists.proofs.Tests.{clash, both, and, passes}
-use Rattle.sheet.specs.Limits.{count_fits, window_fits, tick_fits, policy_and_core_fit, edition_fits, refused_numbers}
+use Rattle.units.specs.declared.Percent.{Percent}
+use Rattle.sheet.specs.Limits.{percent_at, count_fits, window_fits, tick_fits, policy_and_core_fit, edition_fits, refused_numbers}
 
 -- a count above 16 is refused, whatever the other numbers are
 pub too_many : (count window tick policy core edition stated sum : ℕ) → 16 < count → refused_numbers count window tick policy core edition stated sum ≡ 1
@@ -74,3 +82,24 @@ other_flag count window tick policy core edition stated sum above =
         let z : ⊥ = omega arith in
         absurd z
     go false e = (omega arith, omega arith)
+
+-- the first number of a total
+total_first : (n : ℕ) (f : ℕ → ℕ) → total (suc n) f ≡ f 0 + total n (λ i. f (suc i))
+total_first zero f = refl
+total_first (suc n) f = omega (arith, total_first n f)
+
+-- the shares of a list, added up
+pub shares_summed : (shares : List Percent) → sum_by (λ (share : Percent). share.0) shares ≡ total (length shares) (percent_at shares)
+shares_summed [] = refl
+shares_summed (share ∷ shares) =
+    omega (
+      arith,
+      sum_by-cons (λ (share : Percent). share.0) share shares,
+      shares_summed shares,
+      total_first (length shares) (percent_at (share ∷ shares)),
+    )
+
+-- those before the n-th, added up
+pub first_shares : (shares : List Percent) (n : ℕ) → n ≤ length shares → total (length (take n shares)) (percent_at (take n shares)) ≡ total n (percent_at shares)
+first_shares shares n h =
+    rw length-take-le (total_ext n (percent_at (take n shares)) (percent_at shares) (λ p b. ap (λ (share : Percent). share.0) (get_or-take n shares p (record { 0 = 0 }) b)))

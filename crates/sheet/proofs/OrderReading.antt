@@ -1,9 +1,10 @@
 -- Laws of the records of a sheet, read.
-use mathlib.Core.Path.{◌≡◌, ap, ◌∙◌}
+use mathlib.Core.Path.{◌≡◌, sym, ap, ◌∙◌}
 use Prim.Native.Nat.{ℕ, ◌+◌, ◌-◌, ◌*◌, ◌%◌, ◌≤◌, ◌<◌}
 use mathlib.Core.Bool.{Bool, true, false, cond, ◌&&◌}
 use mathlib.Core.List.{List, [], ◌++◌, map}
-use lib.ListN.{length, get_or, take, drop, replicate, drop_of_length-le}
+use lib.ListN.{length, get_or, take, drop, replicate, drop_of_length-le, length-append, length-drop}
+use lib.Seq.{take_at, drop_at, drop-drop}
 use lib.Dec.{eqb, leb}
 use borrow.Author.Tests.{eqb-true, leb-true}
 use native.Mathlib.Omega.{arith}
@@ -11,7 +12,7 @@ use Rattle.lists.specs.Lists.{below}
 use Rattle.lists.proofs.Tests.{both}
 use Rattle.lists.proofs.All.{all_fails, all_below}
 use Rattle.lists.proofs.Tables.{table_filled}
-use Rattle.sheet.specs.Records.{Said, says, wrong_form, accepted, field_of}
+use Rattle.sheet.specs.Records.{Said, says, accepted, field_of}
 use Rattle.sheet.proofs.RecordsLaws.{is_value, no_record}
 use Rattle.sheet.specs.Order.{letter_at, number_at, record_count, head_of, whole_records, field_at, value_at, values_of, records_formed}
 
@@ -45,11 +46,23 @@ count_high bs w = omega (arith, w.high, (head_is bs).1)
 
 -- ---- one record
 
+-- a chunk of twelve bytes, where as many chunks as i stand before it, is record i
+pub chunk_is : (bs rest chunk after : List ℕ) (size i : ℕ) → size ≡ 12 → rest ≡ drop (12 * i) bs → rest ≡ chunk ++ after → length chunk ≡ size
+    → (chunk ≡ take 12 (drop (12 * i) bs)) × (after ≡ drop (12 * (i + 1)) bs) × (i < record_count bs)
+chunk_is bs rest chunk after size i twelve e f h =
+    let long : length chunk ≡ 12 = h ∙ twelve in
+    let here : drop (12 * i) bs ≡ chunk ++ after = sym e ∙ f in
+    let next : 12 * (i + 1) ≡ 12 * i + 12 = omega arith in (
+      sym (ap (take 12) here ∙ take_at chunk after 12 long),
+      rw (next, ← drop-drop 12 (12 * i) bs) (sym (ap (drop 12) here ∙ drop_at chunk after 12 long)),
+      omega (arith, ap length here, length-drop (12 * i) bs, length-append chunk after),
+    )
+
 -- what was read as record i is what it says
-pub field_is : (bs : List ℕ) (i head : ℕ) {letter number : ℕ} {r : Said} → head ≡ head_of bs → letter ≡ letter_at head i → number ≡ number_at head i
-    → r ≡ field_of (take (12 * i + 12 - 12 * i) (drop (12 * i) bs)) letter number → field_at bs i ≡ r
+pub field_is : (bs : List ℕ) (i head : ℕ) {letter number : ℕ} {chunk : List ℕ} {r : Said} → head ≡ head_of bs → letter ≡ letter_at head i → number ≡ number_at head i
+    → chunk ≡ take 12 (drop (12 * i) bs) → r ≡ field_of chunk letter number → field_at bs i ≡ r
 unfolding field_at
-field_is bs i head h a b e = let twelve : 12 * i + 12 - 12 * i ≡ 12 = omega arith in rw (e, a, b, twelve, ← h)
+field_is bs i head h a b t e = rw (e, a, b, t, ← h)
 
 pub value_is : (bs : List ℕ) (i v : ℕ) → field_at bs i ≡ says v → (value_at bs i ≡ v) × (accepted (field_at bs i) ≡ true)
 unfolding value_at
@@ -66,9 +79,9 @@ value_past bs w i h =
 -- ---- all records
 
 -- one that is refused refuses the sheet
-pub formed_not : (bs : List ℕ) (i : ℕ) → i < record_count bs → field_at bs i ≡ wrong_form → records_formed bs ≡ false
+pub formed_not : (bs : List ℕ) (i : ℕ) → i < record_count bs → accepted (field_at bs i) ≡ false → records_formed bs ≡ false
 unfolding records_formed
-formed_not bs i h e = all_fails (λ i. accepted (field_at bs i)) (record_count bs) i h (rw e)
+formed_not bs i h e = all_fails (λ i. accepted (field_at bs i)) (record_count bs) i h e
 
 -- where none is, each says its value
 pub formed_of : (bs : List ℕ) → records_formed bs ≡ true → (i : ℕ) → i < record_count bs → field_at bs i ≡ says (value_at bs i)

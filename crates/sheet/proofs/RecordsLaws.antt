@@ -10,8 +10,11 @@ use borrow.Author.Tests.{eqb-true, eq-eqb}
 use native.Mathlib.Omega.{arith}
 use Rattle.lists.proofs.Tests.{both}
 use Rattle.lists.proofs.Tables.{by_length}
-use Rattle.sheet.specs.Records.{Said, says, wrong_form, accepted, number_from, framed, only_if, field_of, digits_of, record_of}
-use Rattle.sheet.proofs.Digits.{no_value, read_written, written_read}
+use Rattle.std.specs.Prelude.{Err}
+use Rattle.refusals.specs.declared.Refusal.{Refusal}
+use Rattle.refusals.proofs.Laws.{never_zero}
+use Rattle.sheet.specs.Records.{Said, said_by, says, wrong_form, accepted, number_from, framed, only_if, field_of, digits_of, record_of}
+use Rattle.sheet.proofs.Digits.{no_value, refused_form, read_written, written_read}
 
 -- ---- reading
 
@@ -26,6 +29,14 @@ no_record letter number = go (eqb 0 letter)
     go : (b : Bool) → cond (b && false) (only_if (number_from 0 []) number (number_from 0 [])) wrong_form ≡ wrong_form
     go true = refl
     go false = refl
+
+-- a record whose two digits are refused
+pub digits_refused : (r : List ℕ) (letter number : ℕ) (x : Refusal) → framed r letter ≡ true → said_by (Err x) ≡ number_from 0 (take 2 (drop 2 r))
+    → said_by (Err x) ≡ field_of r letter number
+unfolding field_of
+digits_refused r letter number x f e =
+    let none : accepted (number_from 0 (take 2 (drop 2 r))) ≡ false = ap accepted (sym e) ∙ never_zero x in
+    rw (f, none) (e ∙ refused_form 0 (take 2 (drop 2 r)) none)
 
 -- ---- writing
 

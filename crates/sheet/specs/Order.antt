@@ -1,5 +1,7 @@
 -- The records of a share sheet in their order: W, C, P, M, E where the edition is stated, then an S for each partition.
-use Rattle.std.specs.Prelude.{ℕ, suc, zero, ◌+◌, ◌-◌, ◌*◌, ◌/◌, ◌%◌, Bool, cond, ◌&&◌, List, [], ◌∷◌, ◌++◌, map, length, get_or, take, drop, leb, eqb}
+use Rattle.std.specs.Prelude.{ℕ, suc, zero, ◌+◌, ◌-◌, ◌*◌, ◌/◌, ◌%◌, Bool, cond, ◌&&◌, List, [], ◌∷◌, ◌++◌, map, length, get_or, take, drop, leb, eqb, Result, Ok, Err}
+use Rattle.refusals.specs.declared.Refusal.{Refusal}
+use Rattle.refusals.specs.declared.Refusal.TheVariants.{Form}
 use Rattle.lists.specs.Lists.{below, all}
 use Rattle.sheet.specs.Records.{Said, accepted, field_of, record_of}
 
@@ -37,6 +39,10 @@ records_formed bs = all (λ i. accepted (field_at bs i)) (below (record_count bs
 -- the values of all the records that a sheet may have
 unfoldable pub values_of : List ℕ → List ℕ
 values_of bs = map (value_at bs) (below 21)
+
+-- what reading the records answers: their values, or the refusal of a record that is not formed
+unfoldable pub values_or_refusal : List ℕ → Result (List ℕ) Refusal
+values_or_refusal bs = cond (records_formed bs) (Ok (values_of bs)) (Err Form)
 
 -- ---- writing
 

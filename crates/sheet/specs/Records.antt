@@ -1,7 +1,7 @@
 -- A record of the share sheet, twelve bytes: letter, space, two digits, space, six digits, line feed.
-use Rattle.std.specs.Prelude.{ℕ, zero, suc, ◌+◌, ◌-◌, ◌*◌, ◌/◌, ◌%◌, Bool, cond, ◌&&◌, List, [], ◌∷◌, ◌++◌, get_or, take, drop, eqb, leb}
-use Rattle.sheet.specs.declared.records.Field.{Field}
-use Rattle.sheet.specs.declared.records.Field.TheVariants.{Value, Refused}
+use Rattle.std.specs.Prelude.{ℕ, zero, suc, ◌+◌, ◌-◌, ◌*◌, ◌/◌, ◌%◌, Bool, cond, ◌&&◌, List, [], ◌∷◌, ◌++◌, get_or, take, drop, eqb, leb, Result, Ok, Err}
+use Rattle.refusals.specs.Refusals.{number_of}
+use Rattle.refusals.specs.declared.Refusal.{Refusal}
 
 -- ---- what reading a record answers, in the paper's numbers
 
@@ -20,10 +20,10 @@ wrong_form = record { refusal = 2; value = 0 }
 abbrev pub accepted : Said → Bool
 accepted s = eqb s.refusal 0
 
--- the number and the value for each case of the enum
-abbrev pub said_by : Field → Said
-said_by (Value v) = says v
-said_by Refused = wrong_form
+-- the number and the value of what a record reads as
+abbrev pub said_by : Result ℕ Refusal → Said
+said_by (Ok v) = says v
+said_by (Err r) = record { refusal = number_of r; value = 0 }
 
 -- ---- reading
 

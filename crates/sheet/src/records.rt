@@ -2,79 +2,58 @@
 ghost use Rattle.std.specs.Prelude.{◌≡◌, ◌<◌, length};
 ghost use Rattle.sheet.specs.Records.{said_by, number_from, framed, field_of, digits_of, record_of};
 
-// What one record of a sheet says: a value, or a refusal. `said_by` in specs/ gives each case the paper's number and value.
-#[derive(Clone, Copy)]
-pub enum Field {
-    Value(u32),
-    Refused,
-}
+use refusals::Refusal;
 
 // The number that up to six digits spell. A comma, a point or any other byte that is no digit is refused.
-fn read_digits(digits: &[u8]) -> Field
+#[tactic(auto, using(crate::proofs::Digits::number_more, crate::proofs::Digits::number_bad, crate::proofs::Digits::number_end, crate::proofs::Digits::ten_more))]
+fn read_digits(digits: &[u8]) -> Result<u32, Refusal>
     requires { length digits.now < 7 }
     ensures { said_by result ≡ number_from 0 digits.now }
 {
-    let mut value: u32 = 0;
-    let mut i = 0;
-    while i < digits.len() {
-        let byte = digits[i];
-        if byte < b'0' {
-            return Field::Refused;
+    let mut value = 0;
+    for byte in digits {
+        if !byte.is_ascii_digit() {
+            return Err(Refusal::Form);
         }
-        if b'9' < byte {
-            return Field::Refused;
-        }
-        value = value * 10 + ((byte - b'0') as u32);
-        i += 1;
+        value = value * 10 + u32::from(byte - b'0');
     }
-    Field::Value(value)
+    Ok(value)
 }
 
 // The letter, the spaces and the line feed are in their places.
+#[tactic(auto, unfolding(crate::specs::Records::framed))]
 fn is_framed(record: &[u8], letter: u8) -> bool
     requires { length «record».now ≡ 12 }
     ensures { result ≡ framed «record».now letter }
 {
-    if record[0] != letter {
-        return false;
-    }
-    if record[1] != b' ' {
-        return false;
-    }
-    if record[4] != b' ' {
-        return false;
-    }
-    record[11] == b'\n'
+    record[0] == letter && record[1] == b' ' && record[4] == b' ' && record[11] == b'\n'
 }
 
 // What the record says: its six digits, if the letter and the two-digit number are those that belong there. The paper names the form: a
 // record reads as an enum, value or refusal.
-pub fn read_record(record: &[u8], letter: u8, number: u32) -> Field
+#[tactic(auto, unfolding(crate::specs::Records::field_of))]
+pub fn read_record(record: &[u8], letter: u8, number: u32) -> Result<u32, Refusal>
     requires { length «record».now ≡ 12 }
     ensures { said_by result ≡ field_of «record».now letter number }
 {
     if !is_framed(record, letter) {
-        return Field::Refused;
+        return Err(Refusal::Form);
     }
-    let Field::Value(found) = read_digits(&record[2..4]) else {
-        return Field::Refused;
-    };
-    if found != number {
-        return Field::Refused;
+    if read_digits(&record[2..4])? != number {
+        return Err(Refusal::Form);
     }
     read_digits(&record[5..11])
 }
 
 // The value in decimal digits, as many as there is room for.
+#[tactic(auto, using(crate::proofs::Digits::written_more), unfolding(crate::specs::Records::digits_of))]
 fn write_digits(out: &mut [u8], value: u32)
     ensures { out.new ≡ digits_of (length out.old) value }
 {
     let mut rest = value;
-    let mut i = out.len();
-    while 0 < i {
-        i -= 1;
+    for i in (0..out.len()).rev() {
         out[i] = b'0' + (rest % 10) as u8;
-        rest = rest / 10;
+        rest /= 10;
     }
 }
 

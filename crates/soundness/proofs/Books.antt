@@ -1,7 +1,9 @@
 -- How the answers of the passes make up the test of the books.
-use Rattle.std.proofs.Common.{◌≡◌, ℕ, ◌+◌, ◌-◌, ◌*◌, ◌%◌, ◌^◌, ◌<◌, ◌≤◌, Bool, true, false, ◌&&◌, eqb, ltb, leb, List, length, get_or, take, drop, replicate, refl, ap, arith, drop-drop, take-add, le-ltb, lt-ltb, leb-true}
+use Rattle.std.proofs.Common.{◌≡◌, ℕ, ◌+◌, ◌-◌, ◌*◌, ◌%◌, ◌^◌, ◌<◌, ◌≤◌, Bool, true, false, ◌&&◌, eqb, ltb, leb, List, length, get_or, take, drop, replicate, refl, sym, ap, ◌∙◌, arith, length-take, drop-drop, take-add, le-ltb, lt-ltb, leb-true}
 use mathlib.Core.Bool.{and-true, and-false}
 use lib.ListN.{get_or-replicate}
+use lib.Pointwise.{pointwise}
+use lib.Seq.{get_or-take}
 use native.Mathlib.Decide.{dec_lt}
 use Rattle.lists.specs.Lists.{below, sum, all}
 use Rattle.lists.proofs.Tests.{clash, both, and, same}
@@ -9,7 +11,8 @@ use Rattle.lists.proofs.All.{all_below, below_all}
 use Rattle.lists.proofs.Every.{all_same}
 use Rattle.lists.proofs.Sums.{sum_append, sum_le, total_mono, total_const, total_at}
 use Rattle.lists.proofs.Parts.{row_get, row_length}
-use Rattle.soundness.specs.Sums.{row_in, slot_in, totals_agree, slots_within, books_agree, all_narrow, part_in, Added, Rows, RowsAdded, Given}
+use Rattle.soundness.specs.Sums.{row_in, slot_in, totals_agree, slots_within, books_agree, all_narrow, part_in, Added, Rows, RowsAdded}
+use Rattle.soundness.proofs.Parts.{compared}
 use Rattle.soundness.proofs.Passes.{added_zeros, added_both}
 use Rattle.soundness.proofs.Rows.{narrow_at, part_length, part_get}
 
@@ -51,12 +54,12 @@ module _ (h : List ℕ) (w n : ℕ) (f : Rows h w n) (a k : ℕ) (ends : a + k �
           lt-ltb _ _ small
 
   -- so the sums, where they are asked for, have not wrapped
-  pub block_exact : k ≤ 100 → (s : List ℕ) (x y : Bool) → Added (λ i. slot_in h w n (a + i)) (replicate 100 0) s k
+  pub block_exact : k ≤ 100 → (s : List ℕ) (x y : Bool) → (x ≡ true → Added (λ i. slot_in h w n (a + i)) (replicate 100 0) s k)
       → x ≡ narrow → y ≡ all (λ i. leb (get_or s i 0) most) (below k) → (x && y) ≡ within
   block_exact small s x y d e g = rw (e, g) (go narrow refl)
     where
       slot_is : narrow ≡ true → (i : ℕ) → i < k → get_or s i 0 ≡ slot_in h w n (a + i)
-      slot_is q i c = omega (arith, d.done i c, get_or-replicate {A = ℕ} 100 i 0 0 (omega arith), slot_low q i c)
+      slot_is q i c = omega (arith, (d (e ∙ q)).done i c, get_or-replicate {A = ℕ} 100 i 0 0 (omega arith), slot_low q i c)
 
       out : narrow ≡ false → (z : Bool) → within ≡ z → false ≡ z
       out q true r = clash (narrow_slots r) q
@@ -69,7 +72,7 @@ module _ (h : List ℕ) (w n : ℕ) (f : Rows h w n) (a k : ℕ) (ends : a + k �
 -- ---- block after block
 
 -- a test of the numbers below a, and then of k more
-pub all_below_more : (t : ℕ → Bool) (a k : ℕ) → (all t (below a) && all (λ i. t (a + i)) (below k)) ≡ all t (below (a + k))
+all_below_more : (t : ℕ → Bool) (a k : ℕ) → (all t (below a) && all (λ i. t (a + i)) (below k)) ≡ all t (below (a + k))
 all_below_more t a k =
     same (all t (below a) && all (λ i. t (a + i)) (below k)) (all t (below (a + k)))
     (λ e. below_all t (a + k) (λ i b. go i b (both (all t (below a)) (all (λ j. t (a + j)) (below k)) e) (dec_lt i a)))
@@ -78,6 +81,9 @@ all_below_more t a k =
     go : (i : ℕ) → i < a + k → (all t (below a) ≡ true) × (all (λ j. t (a + j)) (below k) ≡ true) → Dec (i < a) → t i ≡ true
     go i b e (yes c) = all_below t a e.0 i c
     go i b e (no c) = let at : i ≡ a + (i - a) = omega arith in rw at (all_below (λ j. t (a + j)) k e.1 (i - a) (omega arith))
+
+pub block_next : (t : ℕ → Bool) (a k : ℕ) → all t (below a) ≡ true → all (λ i. t (a + i)) (below k) ≡ true → all t (below (a + k)) ≡ true
+block_next t a k e f = sym (all_below_more t a k) ∙ and e f
 
 -- the sums of the first a numbers of each row
 abbrev pub rows_to : List ℕ → ℕ → ℕ → ℕ → ℕ
@@ -93,41 +99,45 @@ module _ (h : List ℕ) (w n : ℕ) where
       more : (p : ℕ) → p < n → rows_to h w (a + k) p ≡ rows_to h w a p + sum (part_in h w a k p)
       more p b = rw (take-add a k (drop (p * w) h), sum_append, drop-drop a (p * w) h)
 
--- ---- at the end
+-- a block with a slot that holds more
+pub block_high : (h u : List ℕ) (w n slot most current a k : ℕ) → a + k ≤ w → all (λ i. leb (slot_in h w n (a + i)) most) (below k) ≡ false
+    → false ≡ books_agree h u w n slot most current
+unfolding books_agree
+block_high h u w n slot most current a k ends e = rw (out (slots_within h w n most) refl, and-false (ltb slot w && totals_agree h u w n))
+  where
+    out : (z : Bool) → slots_within h w n most ≡ z → slots_within h w n most ≡ false
+    out true f = clash (below_all (λ i. leb (slot_in h w n (a + i)) most) k (λ i b. all_below (λ j. leb (slot_in h w n j) most) w f (a + i) (omega arith))) e
+    out false f = f
 
-module _ (h : List ℕ) (w n most : ℕ) (g : Given h w n most) where
-  abbrev every : Bool
-  every = slots_within h w n most
+-- ---- at the end, where every slot is within
 
-  slot_few : every ≡ true → (k : ℕ) → k < w → slot_in h w n k ≤ most
-  slot_few e k c = leb-true _ _ (all_below (λ j. leb (slot_in h w n j) most) w e k c)
+module _ (h : List ℕ) (w n most : ℕ) (f : Rows h w n) (low : most < 4194304) (every : slots_within h w n most ≡ true) where
+  slot_few : (k : ℕ) → k < w → slot_in h w n k ≤ most
+  slot_few k c = leb-true _ _ (all_below (λ j. leb (slot_in h w n j) most) w every k c)
 
   -- 400 numbers that slots may hold add up in 32 bits
-  row_low : every ≡ true → (p : ℕ) → p < n → sum (row_in h w p) < 2 ^ 32
-  row_low e p b =
-      let long : length (row_in h w p) ≡ w = row_length w h p n b g.held.inside in
-      omega (arith, sum_le (row_in h w p) 4194303 (λ k c. at k (rw long at c)), g.held.short)
+  row_low : (p : ℕ) → p < n → sum (row_in h w p) < 2 ^ 32
+  row_low p b =
+      let long : length (row_in h w p) ≡ w = row_length w h p n b f.inside in
+      omega (arith, sum_le (row_in h w p) 4194303 (λ k c. at k (rw long at c)), f.short)
     where
       at : (k : ℕ) → k < w → get_or (row_in h w p) k 0 ≤ 4194303
-      at k c = omega (arith, slot_few e k c, total_at n (λ q. get_or h (q * w + k) 0) p b, row_get w h p k c, g.low)
+      at k c = omega (arith, slot_few k c, total_at n (λ q. get_or h (q * w + k) 0) p b, row_get w h p k c, low)
 
-  -- all the answers
-  pub books_parts : (u rows : List ℕ) (slot current here : ℕ) (x y : Bool) → slot < w → Added (rows_to h w w) (replicate 16 0) rows n
-      → x ≡ slots_within h w n most → y ≡ all (λ p. eqb (get_or u p 0) (get_or rows p 0)) (below n) → here ≡ slot_in h w n slot % 2 ^ 32
-      → (x && y && leb here current) ≡ books_agree h u w n slot most current
+  -- the answers
+  pub books_parts : (u rows : List ℕ) (slot current here : ℕ) (y : Bool) → slot < w → Added (rows_to h w w) (replicate 16 0) rows n
+      → length u ≡ 16 → y ≡ pointwise eqb (take n u) (take n rows) → here ≡ slot_in h w n slot % 2 ^ 32
+      → (y && leb here current) ≡ books_agree h u w n slot most current
   unfolding books_agree
-  books_parts u rows slot current here x y inside d e f s = rw (e, f, lt-ltb slot w inside) (go every refl)
+  books_parts u rows slot current here y inside d long e s =
+      let here_is : here ≡ slot_in h w n slot = omega (arith, slot_few slot inside, low) in
+      rw (every, lt-ltb slot w inside, here_is, e ∙ totals, and-true (totals_agree h u w n))
     where
-      row_is : every ≡ true → (p : ℕ) → p < n → get_or rows p 0 ≡ sum (row_in h w p)
-      row_is q p b = omega (arith, d.done p b, get_or-replicate {A = ℕ} 16 p 0 0 (omega (arith, g.held.few)), row_low q p b)
+      row_is : (p : ℕ) → p < n → get_or rows p 0 ≡ sum (row_in h w p)
+      row_is p b = omega (arith, d.done p b, get_or-replicate {A = ℕ} 16 p 0 0 (omega (arith, f.few)), row_low p b)
 
-      totals : every ≡ true → all (λ p. eqb (get_or u p 0) (get_or rows p 0)) (below n) ≡ totals_agree h u w n
-      totals q =
-          all_same (λ p. eqb (get_or u p 0) (get_or rows p 0)) (λ p. eqb (get_or u p 0) (sum (row_in h w p))) n (λ p b. ap (λ (v : ℕ). eqb (get_or u p 0) v) (row_is q p b))
-
-      go : (z : Bool) → every ≡ z
-          → (z && all (λ p. eqb (get_or u p 0) (get_or rows p 0)) (below n) && leb here current) ≡ (totals_agree h u w n && z && leb (slot_in h w n slot) current)
-      go true q =
-          let here_is : here ≡ slot_in h w n slot = omega (arith, slot_few q slot inside, g.low) in
-          rw (totals q, here_is, and-true (totals_agree h u w n))
-      go false q = rw (and-false (totals_agree h u w n))
+      totals : pointwise eqb (take n u) (take n rows) ≡ totals_agree h u w n
+      totals =
+          compared (take n u) (take n rows) n (simp length-take (omega (arith, f.few))) (simp (length-take, d.long) (omega (arith, f.few)))
+          ∙ all_same (λ p. eqb (get_or (take n u) p 0) (get_or (take n rows) p 0)) (λ p. eqb (get_or u p 0) (sum (row_in h w p))) n
+          (λ p b. rw (get_or-take n u p 0 b, get_or-take n rows p 0 b, row_is p b))

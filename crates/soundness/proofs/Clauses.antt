@@ -1,8 +1,8 @@
 -- The test of one thread's numbers, as the code makes it, and what it comes to over all threads.
-use Rattle.std.proofs.Common.{◌≡◌, ℕ, ◌+◌, ◌*◌, ◌/◌, ◌%◌, ◌^◌, ◌<◌, ◌≤◌, min, max, Bool, true, false, cond, not, ◌&&◌, eqb, ltb, leb, get_or, refl, ap, ◌∙◌, arith, le-ltb, lt-ltb, eq-eqb, ne_eqb, le-leb}
-use mathlib.Core.Bool.{and-true, and-false}
+use Rattle.std.proofs.Common.{◌≡◌, ℕ, ◌+◌, ◌*◌, ◌/◌, ◌%◌, ◌^◌, ◌<◌, ◌≤◌, min, max, Bool, cond, not, ◌&&◌, eqb, ltb, leb, get_or, ap, ◌∙◌, arith, le-ltb, eq-eqb, ne_eqb}
 use lib.Bits.{bit_and, bit_or, and_mask, and_high, and_zero_r, or_zero_r, or_lt, or_add_and, and_le_l}
 use lib.Pow.{shr_mod}
+use Rattle.std.proofs.lemmas.Bool.Decides.{nat_tests}
 use native.Mathlib.Decide.{ℕ_discrete, dec_lt}
 use borrow.Author.Tests.{lt-leb}
 use Rattle.lists.specs.Lists.{below, all}
@@ -41,103 +41,27 @@ high_bits : (x : ℕ) → x < 256 → bit_and x 252 ≡ x / 4 * 4
 high_bits x h = and_high x 6 2 ∙ ap (λ (q : ℕ). q * 4) (shr_mod 6 2 h)
 
 pub wrong_slice : (o l x g : ℕ) → l < 256 → x < 256 → g < 256 → (x + o) % 2 ^ 8 ≡ l → (g + 1) % 2 ^ 8 ≡ o → WrongSlice o l (bit_and x (bit_or g 252))
-wrong_slice o l x g small fits low d e b = go (ℕ_discrete o 1) (dec_lt x 4) (ℕ_discrete l 0)
+wrong_slice o l x g small fits low d e b = go (ℕ_discrete o 1)
   where
-    go : Dec (o ≡ 1) → Dec (x < 4) → Dec (l ≡ 0) → eqb (bit_and x (bit_or g 252)) 0 ≡ slice_fits o l
-    go (no y) z w = let k : g ≡ 255 = omega arith in let m : x ≡ l = omega arith in rw (k, m, ne_eqb o 1 y, and_mask l 8, mod_small l small)
-    go (yes y) (yes z) w =
-        let k : g ≡ 0 = omega arith in
-        rw (k, eq-eqb o 1 y, high_bits x fits, eq-eqb (x / 4 * 4) 0 (omega arith), le-leb 1 l (omega arith), le-leb l 4 (omega arith))
-    go (yes y) (no z) (yes w) =
-        let k : g ≡ 0 = omega arith in
-        rw (k, eq-eqb o 1 y, high_bits x fits, ne_eqb (x / 4 * 4) 0 (λ v. omega arith), lt-leb 1 l (omega arith))
-    go (yes y) (no z) (no w) =
-        let k : g ≡ 0 = omega arith in
-        rw (k, eq-eqb o 1 y, high_bits x fits, ne_eqb (x / 4 * 4) 0 (λ v. omega arith), lt-leb l 4 (omega arith), and-false (leb 1 l))
+    go : Dec (o ≡ 1) → eqb (bit_and x (bit_or g 252)) 0 ≡ slice_fits o l
+    go (no y) = let k : g ≡ 255 = omega arith in let m : x ≡ l = omega arith in rw (k, m, ne_eqb o 1 y, and_mask l 8, mod_small l small)
+    go (yes y) = let k : g ≡ 0 = omega arith in rw (k, eq-eqb o 1 y, high_bits x fits) (grind (arith, nat_tests))
 
 -- a is the policy of a thread that does not exist, and w tells of the slice
 pub wrong_turn : (e o l a w : ℕ) → OfAbsent e o a → WrongSlice o l w → WrongTurn e o l (bit_or a w)
-wrong_turn e o l a w f s b low = rw (← or_none a w, f b, s low) (go (ℕ_discrete e 1) (ℕ_discrete o 0))
-  where
-    go : Dec (e ≡ 1) → Dec (o ≡ 0) → (eqb (cond (eqb e 1) 0 o) 0 && slice_fits o l) ≡ cond (eqb e 1) (slice_fits o l) (eqb o 0 && eqb l 0)
-    go (yes x) y = rw (eq-eqb e 1 x)
-    go (no x) (yes y) = rw (ne_eqb e 1 x, y)
-    go (no x) (no y) = rw (ne_eqb e 1 x, ne_eqb o 0 y)
+wrong_turn e o l a w f s b low = rw (← or_none a w, f b, s low) (grind (arith, nat_tests))
 
 -- ---- what is joined
-
-least_both : (a b : ℕ) → ltb 0 (min a b) ≡ (ltb 0 a && ltb 0 b)
-least_both a b = go (dec_lt 0 a) (dec_lt 0 b)
-  where
-    go : Dec (0 < a) → Dec (0 < b) → ltb 0 (min a b) ≡ (ltb 0 a && ltb 0 b)
-    go (yes p) (yes q) = rw (lt-ltb 0 (min a b) (omega arith), lt-ltb 0 a p, lt-ltb 0 b q)
-    go (yes p) (no q) = rw (le-ltb 0 (min a b) (omega arith), lt-ltb 0 a p, le-ltb 0 b (omega arith))
-    go (no p) q = rw (le-ltb 0 (min a b) (omega arith), le-ltb 0 a (omega arith))
-
-most_both : (a b n : ℕ) → ltb (max a b) n ≡ (ltb a n && ltb b n)
-most_both a b n = go (dec_lt a n) (dec_lt b n)
-  where
-    go : Dec (a < n) → Dec (b < n) → ltb (max a b) n ≡ (ltb a n && ltb b n)
-    go (yes p) (yes q) = rw (lt-ltb (max a b) n (omega arith), lt-ltb a n p, lt-ltb b n q)
-    go (yes p) (no q) = rw (le-ltb (max a b) n (omega arith), lt-ltb a n p, le-ltb b n (omega arith))
-    go (no p) q = rw (le-ltb (max a b) n (omega arith), le-ltb a n (omega arith))
-
-apart : (a b c w x y : Bool) → ((a && w) && (b && x) && (c && y)) ≡ ((a && b && c) && (w && x && y))
-apart true true true w x y = refl
-apart true true false w x y = and-false (w && x)
-apart true false c w x y = rw (and-false w)
-apart false b c w x y = refl
 
 -- the answer from the three bytes
 abbrev pub answer : ℕ → ℕ → ℕ → ℕ → Bool
 answer count rest least most = eqb rest 0 && ltb 0 least && ltb most count
 
 joined : (count rest least most a b p : ℕ)
-    → answer count (bit_or rest a) (min least b) (max most p) ≡ (answer count rest least most && answer count a b p)
-joined count rest least most a b p =
-    rw (← or_none rest a, least_both least b, most_both most p count)
-    (apart (eqb rest 0) (ltb 0 least) (ltb most count) (eqb a 0) (ltb 0 b) (ltb p count))
+    → answer count (bit_or rest a) (min b least) (max p most) ≡ (answer count rest least most && answer count a b p)
+joined count rest least most a b p = rw (← or_none rest a) (grind (arith, nat_tests))
 
 -- ---- one thread
-
-two : (x : ℕ) → ltb x 2 ≡ leb x 1
-two x = go (dec_lt x 2)
-  where
-    go : Dec (x < 2) → ltb x 2 ≡ leb x 1
-    go (yes p) = rw (lt-ltb x 2 p, le-leb x 1 (omega arith))
-    go (no p) = rw (le-ltb x 2 (omega arith), lt-leb x 1 (omega arith))
-
-some : (x : ℕ) → ltb 0 x ≡ not (eqb x 0)
-some x = go (dec_lt 0 x)
-  where
-    go : Dec (0 < x) → ltb 0 x ≡ not (eqb x 0)
-    go (yes p) = rw (lt-ltb 0 x p, ne_eqb x 0 (λ z. omega arith))
-    go (no p) = rw (le-ltb 0 x (omega arith), eq-eqb x 0 (omega arith))
-
--- of a thread that exists; s is the test of its slice
-turn : (x y z s : Bool) → (x && s && y && z) ≡ (x && (z && y && s))
-turn true true true true = refl
-turn true true true false = refl
-turn true true false s = and-false (s && true)
-turn true false z s = rw (and-false s, and-false z)
-turn false y z s = refl
-
--- of one that does not
-blank : (count r p : ℕ) (n m o l : Bool) → 1 ≤ count
-    → (leb r 1 && (eqb r 0 && eqb p 0 && n && m && (o && l)) && true && ltb p count) ≡ (leb r 1 && (not (eqb r 1) && eqb p 0 && n && m && o && l))
-blank count r p n m o l h = go (ℕ_discrete r 0) (ℕ_discrete p 0) (ℕ_discrete r 1)
-  where
-    beside : (k : Bool) → (k && (o && l) && true && true) ≡ (k && o && l)
-    beside true = rw (and-true (o && l), and-true (o && l))
-    beside false = refl
-
-    go : Dec (r ≡ 0) → Dec (p ≡ 0) → Dec (r ≡ 1)
-        → (leb r 1 && (eqb r 0 && eqb p 0 && n && m && (o && l)) && true && ltb p count) ≡ (leb r 1 && (not (eqb r 1) && eqb p 0 && n && m && o && l))
-    go (yes x) (yes y) z =
-        rw (le-leb r 1 (omega arith), eq-eqb r 0 x, ne_eqb r 1 (λ v. omega arith), eq-eqb p 0 y, lt-ltb p count (omega arith)) (beside (n && m))
-    go (yes x) (no y) z = rw (le-leb r 1 (omega arith), eq-eqb r 0 x, ne_eqb r 1 (λ v. omega arith), ne_eqb p 0 y)
-    go (no x) y (yes z) = rw (le-leb r 1 (omega arith), ne_eqb r 0 x, eq-eqb r 1 z)
-    go (no x) y (no z) = rw (lt-leb r 1 (omega arith))
 
 -- a thread's numbers are sound, and its flags 0 or 1
 abbrev pub proper : ℕ → ℕ → ℕ → ℕ → ℕ → ℕ → ℕ → ℕ → Bool
@@ -151,13 +75,7 @@ tested count f rest least most = ltb f 2 && eqb rest 0 && ltb 0 least && ltb mos
 
 -- a policy above 1 shows on both sides
 high : (count e r p n m o l a b w : ℕ) → 1 < o → tested count (bit_or (bit_or e r) o) (bit_or a w) b p ≡ proper count e r p n m o l
-high count e r p n m o l a b w h =
-    rw (← or_below 1 (bit_or e r) o, le-ltb o 2 (omega arith), and-false (ltb (bit_or e r) 2), lt-leb o 1 h, ne_eqb o 0 (λ v. omega arith))
-    (go (eqb e 1))
-  where
-    go : (z : Bool) → false ≡ ((leb e 1 && leb r 1) && cond z (ltb p count && not (eqb m 0) && false) (not (eqb r 1) && eqb p 0 && eqb n 0 && eqb m 0 && false && eqb l 0))
-    go true = rw (and-false (ltb p count && not (eqb m 0)), and-false (leb e 1 && leb r 1))
-    go false = rw (and-false (not (eqb r 1) && eqb p 0 && eqb n 0 && eqb m 0), and-false (leb e 1 && leb r 1))
+high count e r p n m o l a b w h = rw (← or_below 1 (bit_or e r) o) (grind (arith, nat_tests))
 
 answer_is : (count e r p n m o l a b w : ℕ) → 1 ≤ count → OfAbsent e (bit_or (bit_or (bit_or r p) n) m) a → OfExisting e m b → WrongTurn e o l w
     → tested count (bit_or (bit_or e r) o) (bit_or a w) b p ≡ proper count e r p n m o l
@@ -166,39 +84,11 @@ answer_is count e r p n m o l a b w h f g s = go (dec_lt 1 o) (ℕ_discrete e 0)
     go : Dec (1 < o) → Dec (e ≡ 0) → Dec (e ≡ 1) → tested count (bit_or (bit_or e r) o) (bit_or a w) b p ≡ proper count e r p n m o l
     go (yes z) x y = high count e r p n m o l a b w z
     go (no z) (yes x) y =
-        rw (
-          ← or_below 1 (bit_or e r) o,
-          ← or_below 1 e r,
-          ← or_none a w,
-          lt-ltb e 2 (omega arith),
-          lt-ltb o 2 (omega arith),
-          two r,
-          and-true (leb r 1),
-          f (omega arith),
-          g (omega arith),
-          s (omega arith) (omega arith),
-          ne_eqb e 1 (λ v. omega arith),
-          le-leb e 1 (omega arith),
-        )
-        (rw (← or_none (bit_or (bit_or r p) n) m, ← or_none (bit_or r p) n, ← or_none r p) (blank count r p (eqb n 0) (eqb m 0) (eqb o 0) (eqb l 0) h))
+        rw (← or_below 1 (bit_or e r) o, ← or_below 1 e r, ← or_none a w, f (omega arith), g (omega arith), s (omega arith) (omega arith), x)
+        (rw (← or_none (bit_or (bit_or r p) n) m, ← or_none (bit_or r p) n, ← or_none r p) (grind (arith, nat_tests)))
     go (no z) (no x) (yes y) =
-        rw (
-          ← or_below 1 (bit_or e r) o,
-          ← or_below 1 e r,
-          ← or_none a w,
-          lt-ltb e 2 (omega arith),
-          lt-ltb o 2 (omega arith),
-          two r,
-          and-true (leb r 1),
-          f (omega arith),
-          g (omega arith),
-          s (omega arith) (omega arith),
-          eq-eqb e 1 y,
-          le-leb e 1 (omega arith),
-          le-leb o 1 (omega arith),
-          some m,
-        )
-        (turn (leb r 1) (not (eqb m 0)) (ltb p count) (slice_fits o l))
+        rw (← or_below 1 (bit_or e r) o, ← or_below 1 e r, ← or_none a w, f (omega arith), g (omega arith), s (omega arith) (omega arith), y)
+        (grind (arith, nat_tests))
     go (no z) (no x) (no y) = rw (← or_below 1 (bit_or e r) o, ← or_below 1 e r, le-ltb e 2 (omega arith), lt-leb e 1 (omega arith))
 
 -- ---- all threads
@@ -214,7 +104,7 @@ module _ (count : ℕ) (ts : Columns) where
       → OfExisting (get_or ts.exists t 0) (get_or ts.masks t 0) b
       → WrongTurn (get_or ts.exists t 0) (get_or ts.policies t 0) (get_or ts.slices t 0) w
       → WrongFlag (bit_or (bit_or (get_or ts.exists t 0) (get_or ts.ready t 0)) (get_or ts.policies t 0)) d
-      → answer count (bit_or rest (bit_or d (bit_or a w))) (min least b) (max most (get_or ts.partitions t 0)) ≡ (answer count rest least most && fine count ts t)
+      → answer count (bit_or rest (bit_or d (bit_or a w))) (min b least) (max (get_or ts.partitions t 0) most) ≡ (answer count rest least most && fine count ts t)
   unfolding sound_thread sound_slice
   fine_more t rest least most a b w d h f g s v =
       joined count rest least most (bit_or d (bit_or a w)) b (get_or ts.partitions t 0)

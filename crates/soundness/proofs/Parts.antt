@@ -1,21 +1,27 @@
 -- How the answers of the passes make up the test of the ready queue.
-use Rattle.std.proofs.Common.{◌≡◌, ℕ, Bool, true, false, ◌&&◌, eqb, leb, List, get_or, take, drop, sym, refl, ap, ◌∙◌, eq-eqb, ne_eqb}
-use native.Mathlib.Decide.{ℕ_discrete}
+use Rattle.std.proofs.Common.{◌≡◌, ℕ, Bool, true, false, ◌&&◌, eqb, leb, List, length, get_or, take, drop, sym, refl, ap, ◌∙◌, arith, eq-eqb, eqb-true}
+use Rattle.std.proofs.lemmas.List.{ext_get_or}
+use Rattle.std.proofs.lemmas.Bool.Decides.{nat_tests}
+use lib.Pointwise.{pointwise, bytes_decides}
 use Rattle.lists.specs.Lists.{below, all, member}
+use Rattle.lists.proofs.Tests.{same}
+use Rattle.lists.proofs.All.{all_below, below_all}
 use Rattle.lists.proofs.Every.{all_same}
 use Rattle.model.specs.Arrays.{flag}
 use Rattle.soundness.specs.Queue.{holds_ready, SeenOnce}
 
 pub zero_same : (x : ℕ) → eqb x 0 ≡ eqb 0 x
-zero_same x = go (ℕ_discrete x 0)
-  where
-    go : Dec (x ≡ 0) → eqb x 0 ≡ eqb 0 x
-    go (yes e) = rw (eq-eqb x 0 e, eq-eqb 0 x (sym e))
-    go (no e) = rw (ne_eqb x 0 e, ne_eqb 0 x (λ z. e (sym z)))
+zero_same x = grind (arith, nat_tests)
 
-pub queue_long : (r q : List ℕ) (n : ℕ) → leb n 64 ≡ false → false ≡ holds_ready r q n
-unfolding holds_ready
-queue_long r q n e = rw e
+-- lists of n numbers are the same where each number is
+pub compared : (a b : List ℕ) (n : ℕ) → length a ≡ n → length b ≡ n → pointwise eqb a b ≡ all (λ t. eqb (get_or a t 0) (get_or b t 0)) (below n)
+compared a b n e f =
+    same (pointwise eqb a b) (all alike (below n))
+    (λ p. below_all alike n (λ t h. eq-eqb (get_or a t 0) (get_or b t 0) (ap (λ (l : List ℕ). get_or l t 0) ((bytes_decides a b).0 p))))
+    (λ p. (bytes_decides a b).1 (ext_get_or 0 a b (e ∙ sym f) (λ t h. eqb-true (get_or a t 0) (get_or b t 0) (all_below alike n p t (rw e at h)))))
+  where
+    alike : ℕ → Bool
+    alike t = eqb (get_or a t 0) (get_or b t 0)
 
 pub queue_parts : (r q : List ℕ) (n : ℕ) (seen : List ℕ) (a b z : Bool) → leb n 64 ≡ true
     → SeenOnce (take n q) a seen

@@ -1,8 +1,9 @@
 -- The model's clauses of the state that the arrays stand for, as tests of the arrays.
-use Rattle.std.proofs.Common.{◌≡◌, ℕ, ◌*◌, ◌<◌, ◌≤◌, Bool, true, false, not, ◌&&◌, ◌||◌, eqb, ltb, leb, List, get_or, take, drop, refl, ap, ◌∙◌, arith, le-ltb, lt-ltb, eq-eqb, ne_eqb, eqb-true, leb-true}
+use Rattle.std.proofs.Common.{◌≡◌, ℕ, ◌*◌, ◌<◌, ◌≤◌, Bool, true, false, not, ◌&&◌, ◌||◌, eqb, ltb, leb, List, get_or, take, drop, refl, ap, ◌∙◌, arith, le-ltb, lt-ltb, eqb-true, leb-true}
 use mathlib.Core.Bool.{or-true, and-true, and-false}
 use lib.ListN.{get_or-map}
-use native.Mathlib.Decide.{ℕ_discrete, dec_lt}
+use Rattle.std.proofs.lemmas.Bool.Decides.{nat_tests}
+use native.Mathlib.Decide.{dec_lt}
 use Rattle.lists.specs.Lists.{below, all, sum, member, distinct}
 use Rattle.lists.proofs.Tests.{both, clash}
 use Rattle.lists.proofs.All.{all_below, below_all, all_member}
@@ -21,13 +22,7 @@ use Rattle.soundness.specs.Refused.{rest_zero, running_fits}
 
 -- a flag of 0 or 1 beside a truth
 same_flag : (x : ℕ) (b : Bool) → x ≤ 1 → same_bool (eqb x 1) b ≡ eqb x (flag b)
-same_flag x b h = go (ℕ_discrete x 1) b
-  where
-    go : Dec (x ≡ 1) → (b : Bool) → same_bool (eqb x 1) b ≡ eqb x (flag b)
-    go (yes e) true = rw (eq-eqb x 1 e)
-    go (yes e) false = rw (eq-eqb x 1 e, ne_eqb x 0 (λ z. omega arith))
-    go (no e) true = rw (ne_eqb x 1 e)
-    go (no e) false = rw (ne_eqb x 1 e, eq-eqb x 0 (omega arith))
+same_flag x b h = grind (arith, nat_tests)
 
 module _ (c : Settings) (u : List ℕ) (k : Clock) (ts : Columns) (q : List ℕ) where
   -- the state

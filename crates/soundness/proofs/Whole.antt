@@ -1,5 +1,5 @@
 -- All the parts are the model's soundness, with flags of 0 and 1.
-use Rattle.std.proofs.Common.{◌≡◌, ℕ, ◌*◌, ◌<◌, ◌≤◌, Bool, true, false, cond, ◌&&◌, ◌||◌, eqb, ltb, leb, List, get_or, sym, refl, ◌∙◌, le-ltb, lt-ltb, eq-eqb, ne_eqb}
+use Rattle.std.proofs.Common.{◌≡◌, ℕ, ◌*◌, Bool, true, false, cond, ◌&&◌, ◌||◌, eqb, ltb, leb, List, sym, refl, ◌∙◌}
 use mathlib.Core.Bool.{and-false}
 use lib.Bits.{bit_or}
 use Rattle.lists.specs.Lists.{below, all}
@@ -7,7 +7,7 @@ use Rattle.lists.proofs.Tests.{both, and, same}
 use Rattle.lists.proofs.Union.{or_none}
 use Rattle.sheet.specs.Settings.{W, C, within_limits}
 use Rattle.sheet.specs.declared.Settings.{Settings}
-use Rattle.model.specs.State.{thread, allows}
+use Rattle.model.specs.State.{thread}
 use Rattle.model.specs.Arrays.{Columns, thread_in, plain, flags_fit}
 use Rattle.model.specs.Sound as Model
 use Rattle.model.specs.Sound.{sound_rest, sound_history, sound_thread, sound_queue, sound_running}
@@ -17,21 +17,6 @@ use Rattle.soundness.specs.Records.{sound_records}
 use Rattle.soundness.specs.Queue.{holds_ready}
 use Rattle.soundness.specs.Refused.{rest_zero, running_fits, sound_in}
 use Rattle.soundness.proofs.Views.{view, rest_is, books_is, threads_are, queue_is, running_is}
-
--- ---- the running thread's tests
-
-module _ (r m : List ℕ) (t core : ℕ) where
-  pub runs_idle : t ≡ 255 → true ≡ running_fits r m t core
-  unfolding running_fits
-  runs_idle e = rw (eq-eqb t 255 e)
-
-  pub runs_outside : (t ≡ 255 → ⊥) → 64 ≤ t → false ≡ running_fits r m t core
-  unfolding running_fits
-  runs_outside n far = rw (ne_eqb t 255 n, le-ltb t 64 far)
-
-  pub runs_inside : (t ≡ 255 → ⊥) → t < 64 → (b : Bool) → b ≡ allows (get_or m t 0) core → (eqb (get_or r t 0) 1 && b) ≡ running_fits r m t core
-  unfolding running_fits
-  runs_inside n near b e = rw (ne_eqb t 255 n, lt-ltb t 64 near, e)
 
 -- ---- one partition more of those past the last
 
@@ -103,19 +88,19 @@ module _ (c : Settings) (u : List ℕ) (k : Clock) (ts : Columns) (q h : List �
 
   -- the three ways out
   module _ (limits : within_limits c ≡ true) where
-    pub bad_records : (a : Bool) → a ≡ sound_records c.count ts → a ≡ false → false ≡ sound_in c u k ts q h
-    bad_records a x y =
+    pub bad_records : {a : Bool} → a ≡ sound_records c.count ts → a ≡ false → false ≡ sound_in c u k ts q h
+    bad_records x y =
         let z : sound_records c.count ts ≡ false = sym x ∙ y in
         rw z at (whole limits)
 
-    pub bad_queue : (a : Bool) → a ≡ holds_ready ts.ready q k.queued → a ≡ false → false ≡ sound_in c u k ts q h
-    bad_queue a x y =
+    pub bad_queue : {a : Bool} → a ≡ holds_ready ts.ready q k.queued → a ≡ false → false ≡ sound_in c u k ts q h
+    bad_queue x y =
         let z : holds_ready ts.ready q k.queued ≡ false = sym x ∙ y in
         rw (z, and-false (sound_records c.count ts)) at (whole limits)
 
-    pub last_parts : (a b : Bool) (f g i : Bool) → a ≡ sound_records c.count ts → a ≡ true → b ≡ holds_ready ts.ready q k.queued → b ≡ true
+    pub last_parts : {a b : Bool} {f g i : Bool} → a ≡ sound_records c.count ts → a ≡ true → b ≡ holds_ready ts.ready q k.queued → b ≡ true
         → f ≡ rest_zero c u → g ≡ runs → i ≡ books → (early && f && g && i) ≡ sound_in c u k ts q h
-    last_parts a b f g i x₁ y₁ x₂ y₂ x₃ x₄ x₅ =
+    last_parts x₁ y₁ x₂ y₂ x₃ x₄ x₅ =
         let z₁ : sound_records c.count ts ≡ true = sym x₁ ∙ y₁ in
         let z₂ : holds_ready ts.ready q k.queued ≡ true = sym x₂ ∙ y₂ in
         rw (x₃, x₄, x₅) (rw (z₁, z₂) at (whole limits))

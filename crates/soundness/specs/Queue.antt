@@ -1,5 +1,5 @@
 -- The ready queue q, of which the first n entries are used, beside the flags r of the ready threads: when it is sound.
-use Rattle.std.specs.Prelude.{◌≡◌, ℕ, ◌<◌, ◌≤◌, Bool, true, ◌&&◌, List, length, take, drop, nat_eq, nat_le, nat_lt, slice_index}
+use Rattle.std.specs.Prelude.{◌≡◌, ℕ, ◌<◌, Bool, true, ◌&&◌, List, take, drop, nat_eq, nat_le, nat_lt, slice_index}
 use Rattle.lists.specs.Lists.{below, all, member, distinct}
 use Rattle.model.specs.Arrays.{flag}
 
@@ -20,8 +20,3 @@ Seen seen ts = (t : ℕ) → t < 64 → slice_index seen t ≡ flag (member t ts
 pub record SeenOnce (ts : List ℕ) (fine : Bool) (seen : List ℕ) : Type 0 where
   pub once : fine ≡ (distinct ts && all (λ t. nat_lt t 64) ts)
   pub marks : fine ≡ true → Seen seen ts
-
--- a queue in an array of 64, and n entries of it
-pub record Entries (q : List ℕ) (n : ℕ) : Type 0 where
-  pub long : length q ≡ 64
-  pub few : n ≤ 64

@@ -1,7 +1,8 @@
 -- What the history's numbers add up to, by row and by slot, and when the books agree with it. Row p is the w numbers from place p × w.
-use Rattle.std.specs.Prelude.{◌≡◌, ℕ, ◌+◌, ◌*◌, ◌%◌, ◌^◌, ◌<◌, ◌≤◌, Bool, ◌&&◌, ltb, leb, List, length, take, drop, nat_eq, nat_le, nat_lt, slice_index}
+use Rattle.std.specs.Prelude.{◌≡◌, ℕ, ◌+◌, ◌*◌, ◌%◌, ◌^◌, ◌<◌, ◌≤◌, Bool, ◌&&◌, ltb, leb, List, length, take, drop, nat_eq, nat_le, nat_lt, slice_index, true, false, Option}
+use Rattle.std.specs.Option.{MatchOption}
 use Rattle.lists.specs.Lists.{below, sum, total, all}
-use Rattle.soundness.specs.declared.sums.Row.{Row}
+use Rattle.units.specs.declared.Cycles.{Cycles}
 
 -- partition p's row
 abbrev pub row_in : List ℕ → ℕ → ℕ → List ℕ
@@ -43,10 +44,9 @@ pub record Added (f : ℕ → ℕ) (l after : List ℕ) (n : ℕ) : Type 0 where
   pub done : (k : ℕ) → k < n → slice_index after k ≡ (slice_index l k + f k) % 2 ^ 32
   pub left : (k : ℕ) → n ≤ k → slice_index after k ≡ slice_index l k
 
--- a part of a row is added up, and each of its numbers to its slot's sum
-pub record RowAdded (row sums : List ℕ) (r : Row) (after : List ℕ) : Type 0 where
-  pub narrow : r.narrow ≡ all_narrow row
-  pub total : r.sum.0 ≡ sum row % 2 ^ 32
+-- a part of a row is added up, where its numbers are narrow, and each of them to its slot's sum
+pub record RowAdded (row sums : List ℕ) (r : Option Cycles) (after : List ℕ) : Type 0 where
+  pub told : MatchOption r (all_narrow row ≡ false) (λ total. (all_narrow row ≡ true) × (total.0 ≡ sum row % 2 ^ 32))
   pub slots : Added (λ k. slice_index row k) sums after (length row)
 
 -- n rows of w numbers
@@ -55,24 +55,17 @@ pub record Rows (h : List ℕ) (w n : ℕ) : Type 0 where
   pub short : w ≤ 400
   pub inside : n * w ≤ length h
 
--- and k of their slots, from slot a on, beside the rows' sums
-pub record Block (h : List ℕ) (w n a k : ℕ) (rows : List ℕ) : Type 0 where
-  pub held : Rows h w n
+-- and k of their w slots, from slot a on
+pub record Block (w a k : ℕ) : Type 0 where
   pub small : k ≤ 100
   pub ends : a + k ≤ w
-  pub rows_long : length rows ≡ 16
 
 -- the parts of the rows are added to the rows' sums
 abbrev pub RowsAdded : List ℕ → ℕ → ℕ → ℕ → ℕ → List ℕ → List ℕ → Type 0
 RowsAdded h w n a k rows after = Added (λ p. sum (part_in h w a k p)) rows after n
 
--- what is found of a block: whether all its numbers are narrow, its slots' sums, and the rows' sums as far as its end
+-- what is found of a block: whether all its numbers are narrow, and if so its slots' sums, and the rows' sums as far as its end
 pub record BlockAdded (h : List ℕ) (w n a k : ℕ) (rows sums : List ℕ) (narrow : Bool) (rows' sums' : List ℕ) : Type 0 where
   pub fine : narrow ≡ all (λ p. all_narrow (part_in h w a k p)) (below n)
-  pub slots : Added (λ i. slot_in h w n (a + i)) sums sums' k
-  pub totals : RowsAdded h w n a k rows rows'
-
--- what the whole test asks for
-pub record Given (h : List ℕ) (w n most : ℕ) : Type 0 where
-  pub held : Rows h w n
-  pub low : most < 4194304
+  pub slots : narrow ≡ true → Added (λ i. slot_in h w n (a + i)) sums sums' k
+  pub totals : narrow ≡ true → RowsAdded h w n a k rows rows'

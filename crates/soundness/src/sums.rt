@@ -1,173 +1,119 @@
 // The lent history, added up by row and by slot: rows against the totals, slots against their limits. The slots are worked through in blocks
-// of 100, so that their sums take little of the stack, and a window of up to 100 ticks is one block. Each function is one plain pass over
-// numbers, without branches, so that it can be done several numbers at a time. Counters have 32 bits: a usize has 64 also where the processor
-// has 32.
-ghost use Rattle.std.specs.Prelude.{◌≡◌, ◌+◌, ◌%◌, ◌^◌, ◌<◌, ◌≤◌, min, length, replicate, nat_eq, nat_le, slice_index};
+// of 100, so that their sums take little of the stack, and a window of up to 100 ticks is one block. Each pass over numbers is a plain one,
+// without branches, so that it can be done several numbers at a time. Counters have 32 bits: a usize has 64 also where the processor has 32.
+ghost use Rattle.std.specs.Prelude.{◌≡◌, ◌+◌, ◌*◌, ◌%◌, ◌^◌, ◌<◌, ◌≤◌, true, Option, length, replicate, nat_le, slice_index};
 ghost use Rattle.lists.specs.Lists.{all, below};
-ghost use Rattle.soundness.specs.Sums.{slot_in, books_agree, RowAdded, Rows, Block, RowsAdded, BlockAdded, Given};
+ghost use Rattle.soundness.specs.Sums.{slot_in, part_in, books_agree, RowAdded, Block, RowsAdded, BlockAdded};
 
-use std::num::wrapping_add_u32;
 use units::{Cycles, Ticks};
 
-// What a pass over a part of a row finds: its sum, and whether every number is below 2^22, which is above every limit of a slot. If one is
-// not, sums may have wrapped, but then the state is refused.
+// A history: for each of `count` partitions a row of `window` numbers, one row after the other.
 #[derive(Clone, Copy)]
-struct Row {
-    sum: Cycles,
-    narrow: bool,
+pub struct History<'a> {
+    pub numbers: &'a [u32],
+    pub window: u32,
+    pub count: u32,
+    pub ghost few: { count ≤ 16 },
+    pub ghost short: { window ≤ 400 },
+    pub ghost inside: { count * window ≤ length numbers.now },
 }
 
-// A part of a row is added up, and each of its numbers to its slot's sum.
-fn add_row(row: &[u32], sums: &mut [u32; 100]) -> Row
-    requires { (length row.now ≤ 100) × (length sums.old ≡ 100) }
+// A part of a row is added up, and each of its numbers to its slot's sum. The answer is the part's sum if every number is below 2^22, which is
+// above every limit of a slot. If one is not, sums may have wrapped, but then the state is refused.
+fn add_row(row: &[u32], sums: &mut [u32; 100]) -> Option<Cycles>
+    requires { length row.now ≤ 100 }
     ensures { RowAdded row.now sums.old result sums.new }
 {
-    let size = row.len() as u32;
     let mut sum: u32 = 0;
     let mut bits: u32 = 0;
-    let mut k: u32 = 0;
-    while k < size {
+    for k in 0..row.len() as u32 {
         let at = k as usize;
         let x = row[at];
-        bits = bits | x;
-        sum = wrapping_add_u32(sum, x);
-        let held = sums[at];
-        sums[at] = wrapping_add_u32(held, x);
-        k += 1;
+        bits |= x;
+        sum = sum.wrapping_add(x);
+        sums[at] = sums[at].wrapping_add(x);
     }
-    let total = Cycles(sum);
-    Row {
-        sum: total,
-        narrow: bits < 4194304,
-    }
-}
-
-// The parts of all rows are added to the rows' sums and to the slots': `size` slots from slot `from` on. The answer is whether all their
-// numbers are below 2^22.
-fn add_rows(
-    history: &[u32],
-    window: u32,
-    count: u32,
-    from: u32,
-    size: u32,
-    rows: &mut [u32; 16],
-    sums: &mut [u32; 100],
-) -> bool
-    requires { Block history.now window count from size rows.old × (sums.old ≡ replicate 100 0) }
-    ensures { BlockAdded history.now window count from size rows.old sums.old result rows.new sums.new }
-{
-    let mut ok = true;
-    let mut p: u32 = 0;
-    while p < count {
-        let start = (p * window + from) as usize;
-        let end = start + (size as usize);
-        let row = add_row(&history[start..end], sums);
-        let at = p as usize;
-        let held = rows[at];
-        rows[at] = wrapping_add_u32(held, row.sum.0);
-        ok = ok & row.narrow;
-        p += 1;
-    }
-    ok
+    let narrow = bits < 4194304;
+    if narrow { Some(Cycles(sum)) } else { None }
 }
 
 // The first slots' sums are at most the given number.
+#[tactic(auto, using(lists::proofs::Loops::all_next), unfolding(lists::specs::Lists::all, lists::specs::Lists::below))]
 fn slots_within(sums: &[u32; 100], size: u32, most: Cycles) -> bool
     requires { size ≤ 100 }
     ensures { result ≡ all (λ k. nat_le (slice_index sums.now k) most.0) (below size) }
 {
     let mut ok = true;
-    let mut k: u32 = 0;
-    while k < size {
-        let at = k as usize;
-        ok = ok & (sums[at] <= most.0);
-        k += 1;
+    for k in 0..size {
+        ok &= sums[k as usize] <= most.0;
     }
     ok
 }
 
-// "each slot's sum over partitions at most 2 × C", of a block of slots. The rows' sums go on.
-fn block_within(
-    history: &[u32],
-    window: u32,
-    count: u32,
-    from: u32,
-    size: u32,
-    most: Cycles,
-    rows: &mut [u32; 16],
-) -> bool
-    requires { Block history.now window count from size rows.old × (most.0 < 4194304) }
-    ensures { (result ≡ all (λ i. nat_le (slot_in history.now window count (from + i)) most.0) (below size))
-        × RowsAdded history.now window count from size rows.old rows.new }
-{
-    let mut sums = [0u32; 100];
-    let narrow = add_rows(history, window, count, from, size, rows, &mut sums);
-    narrow & slots_within(&sums, size, most)
-}
-
-// How many slots the next block has, if so many are left.
-fn block_size(left: u32) -> u32
-    ensures { result ≡ min left 100 }
-{
-    if left < 100 { left } else { 100 }
-}
-
-// "each total equal to its row's sum"
-fn totals_agree(rows: &[u32; 16], totals: &[u32; 16], count: u32) -> bool
-    requires { count ≤ 16 }
-    ensures { result ≡ all (λ p. nat_eq (slice_index totals.now p) (slice_index rows.now p)) (below count) }
-{
-    let mut ok = true;
-    let mut p: u32 = 0;
-    while p < count {
-        let at = p as usize;
-        ok = ok & (totals[at] == rows[at]);
-        p += 1;
+impl<'a> History<'a> {
+    // What a row holds in `size` slots, from slot `from` on.
+    fn part(self, p: u32, from: u32, size: u32) -> &'a [u32]
+        requires { (p < self.count) × (from + size ≤ self.window) }
+        ensures { result.now ≡ part_in self.entry.numbers.now self.entry.window from size p }
+    {
+        let start = (p * self.window + from) as usize;
+        &self.numbers[start..start + size as usize]
     }
-    ok
-}
 
-// What the rows hold in one slot.
-fn slot_sum(history: &[u32], window: u32, count: u32, slot: u32) -> u32
-    requires { Rows history.now window count × (slot < window) }
-    ensures { result ≡ slot_in history.now window count slot % 2 ^ 32 }
-{
-    let mut sum: u32 = 0;
-    let mut p: u32 = 0;
-    while p < count {
-        let at = (p * window + slot) as usize;
-        let x = history[at];
-        sum = wrapping_add_u32(sum, x);
-        p += 1;
+    // The parts of all rows are added to the rows' sums and to the slots', as long as all their numbers are below 2^22, which is the answer.
+    fn add_rows(self, from: u32, size: u32, rows: &mut [u32; 16], sums: &mut [u32; 100]) -> bool
+        requires { Block self.window from size × (sums.old ≡ replicate 100 0) }
+        ensures { BlockAdded self.entry.numbers.now self.entry.window self.entry.count from size rows.old sums.old result rows.new sums.new }
+    {
+        for p in 0..self.count {
+            let Some(sum) = add_row(self.part(p, from, size), sums) else {
+                return false;
+            };
+            let at = p as usize;
+            rows[at] = rows[at].wrapping_add(sum.0);
+        }
+        true
     }
-    sum
-}
 
-// The current slot, the totals and the slots' sums agree with the history. `most` is what a slot may hold, `current` what the current one may.
-pub fn books_agree(
-    history: &[u32],
-    totals: &[u32; 16],
-    window: Ticks,
-    count: u32,
-    slot: Ticks,
-    most: Cycles,
-    current: Cycles,
-) -> bool
-    requires { Given history.now window.0 count most.0 }
-    ensures { result ≡ books_agree history.now totals.now window.0 count slot.0 most.0 current.0 }
-{
-    let w = window.0;
-    let at = slot.0;
-    if w <= at {
-        return false;
+    // "each slot's sum over partitions at most 2 × C", of a block of slots. If so, the rows' sums go on.
+    fn block_within(self, from: u32, size: u32, most: Cycles, rows: &mut [u32; 16]) -> bool
+        requires { Block self.window from size × (most.0 < 4194304) }
+        ensures within { result ≡ all (λ i. nat_le (slot_in self.entry.numbers.now self.entry.window self.entry.count (from + i)) most.0) (below size) }
+        ensures rows { result ≡ true → RowsAdded self.entry.numbers.now self.entry.window self.entry.count from size rows.old rows.new }
+    {
+        let mut sums = [0u32; 100];
+        let narrow = self.add_rows(from, size, rows, &mut sums);
+        narrow & slots_within(&sums, size, most)
     }
-    let mut rows = [0u32; 16];
-    let mut within = true;
-    let mut from: u32 = 0;
-    while from < w {
-        let size = block_size(w - from);
-        within = within & block_within(history, w, count, from, size, most, &mut rows);
-        from += size;
+
+    // What the rows hold in one slot.
+    fn slot_sum(self, slot: u32) -> u32
+        requires { slot < self.window }
+        ensures { result ≡ slot_in self.entry.numbers.now self.entry.window self.entry.count slot % 2 ^ 32 }
+    {
+        let mut sum: u32 = 0;
+        for p in 0..self.count {
+            sum = sum.wrapping_add(self.numbers[(p * self.window + slot) as usize]);
+        }
+        sum
     }
-    within & totals_agree(&rows, totals, count) & (slot_sum(history, w, count, at) <= current.0)
+
+    // The current slot, the totals and the slots' sums agree with the history. `most` is what a slot may hold, `current` what the current one may.
+    pub fn books_agree(self, totals: &[u32; 16], slot: Ticks, most: Cycles, current: Cycles) -> bool
+        requires { most.0 < 4194304 }
+        ensures { result ≡ books_agree self.entry.numbers.now totals.now self.entry.window self.entry.count slot.0 most.0 current.0 }
+    {
+        if self.window <= slot.0 {
+            return false;
+        }
+        let mut rows = [0u32; 16];
+        for from in (0..self.window).step_by(100) {
+            let size = (self.window - from).min(100);
+            if !self.block_within(from, size, most, &mut rows) {
+                return false;
+            }
+        }
+        let count = self.count as usize;
+        (totals[..count] == rows[..count]) & (self.slot_sum(slot.0) <= current.0)
+    }
 }

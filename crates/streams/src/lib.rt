@@ -14,13 +14,10 @@ pub fn read_full<R: Read>(input: &mut R, buffer: &mut [u8]) -> usize
 {
     let mut done: usize = 0;
     while done < buffer.len() {
-        let Ok(n) = input.read(&mut buffer[done..]) else {
-            break;
-        };
-        if n == 0 {
-            break;
+        match input.read(&mut buffer[done..]) {
+            Ok(0) | Err(_) => break,
+            Ok(n) => done += n,
         }
-        done += n;
     }
     done
 }

@@ -11,7 +11,8 @@ use native.Mathlib.Nat.{not-suc-le-zero}
 use lib.Dec.{eqb}
 use borrow.Author.Tests.{eq-eqb, ne_eqb, eqb-false, not-true}
 use lib.ListN.{length, get_or, take, drop, set, replicate, length-append, length-take, length-drop, length-replicate, take-append-drop, get_or-append}
-use lib.Seq.{length-take-le, take-suc, take_all, drop-length, drop-cons, append_snoc, set_at, take_at, drop_at, take-append_seam, get_or-append-add, get_or-drop, take-append-le, drop-append-le, get_or-take}
+use lib.Seq.{length-take-le, take-suc, take_all, drop-length, drop-cons, append_snoc, set_at, take_at, drop_at, drop-drop, take-append-add, take-append_seam, get_or-append-add, get_or-drop, take-append-le, drop-append-le, get_or-take}
+use Rattle.std.specs.List.{copy_within}
 use Rattle.lists.specs.Lists.{any, member, keep, distinct}
 use Rattle.lists.proofs.Tests.{both, neither, clash}
 use Rattle.lists.proofs.All.{without_none}
@@ -71,103 +72,48 @@ module _ (es : List ℕ) (n : ℕ) (s : QueueStored es n) where
 
 -- ---- entries that move up
 
-module _ (l : List ℕ) (at : ℕ) where
-  pub shifted : ℕ → List ℕ
-  shifted i = take i (without l at) ++ drop i l
+-- each entry but the first moves up, and the last one stands twice
+closed_up : (m : List ℕ) → 0 < length m → copy_within m 1 (length m) 0 ≡ drop 1 m ++ (get_or m (length m - 1) 0 ∷ [])
+closed_up m h =
+    let u : suc (length m - 1) ≡ length m = omega arith in
+    let e : take (length m - 1) (drop 1 m) ≡ drop 1 m = take_all (length m - 1) (drop 1 m) (rw (length-drop 1 m) (omega arith)) in
+    let d : drop (0 + (length m - 1)) m ≡ get_or m (length m - 1) 0 ∷ [] =
+    ap (λ (i : ℕ). drop i m) (omega arith) ∙ drop-cons m (length m - 1) 0 (omega arith)
+    ∙ ap (λ (r : List ℕ). get_or m (length m - 1) 0 ∷ r) (ap (λ (i : ℕ). drop i m) u ∙ drop-length m) in
+    rw (e, d)
 
-  long : at < length l → length (without l at) + 1 ≡ length l
-  long h = simp (length-append, length-take, length-drop) (omega arith)
+-- the entries from a place to the last of n are replaced by others, and a zero is stored where the last one stood
+abbrev pub closed_by : List ℕ → ℕ → ℕ → List ℕ → List ℕ
+closed_by l n at x = set (take at l ++ (x ++ drop (n - at) (drop at l))) (n - 1) 0
 
-  pub shift_none : at < length l → l ≡ shifted at
-  unfolding shifted
-  shift_none h =
-      let p : length (take at l) ≡ at = length-take-le at l (omega arith) in
-      rw (take_at (take at l) (drop (at + 1) l) at p) (sym (take-append-drop at l))
+-- the place is left out, and those behind it move up
+pub moved_up : (l : List ℕ) (n at : ℕ) → at < n → n ≤ length l
+    → closed_by l n at (copy_within (take (n - at) (drop at l)) 1 (length (take (n - at) (drop at l))) 0) ≡ removed l n at
+unfolding removed
+moved_up l n at h k =
+    let left = take at l in
+    let m = take (n - at) (drop at l) in
+    let y = get_or m (length m - 1) 0 in
+    let j = n - (at + 1) in
+    let b = take j (drop (at + 1) l) in
+    let u : n - at ≡ suc j = omega arith in
+    let from : drop at l ≡ get_or l at 0 ∷ drop (at + 1) l = rw add-one (drop-cons l at 0 (omega arith)) in
+    let parts : m ≡ get_or l at 0 ∷ b = ap (λ (i : ℕ). take i (drop at l)) u ∙ ap (take (suc j)) from in
+    let some : 0 < length m = rw parts (omega arith) in
+    let r : drop (n - at) (drop at l) ≡ drop n l = drop-drop (n - at) at l ∙ ap (λ (i : ℕ). drop i l) (omega arith) in
+    let p : length left ≡ at = length-take-le at l (omega arith) in
+    let f : length (left ++ b) ≡ n - 1 = simp (length-append, length-take, length-drop) (omega arith) in
+    let e : n - 1 ≡ length left + j = omega (arith, p) in
+    let t : take (n - 1) (without l at) ≡ left ++ b = ap (λ (i : ℕ). take i (without l at)) e ∙ take-append-add left (drop (at + 1) l) j in
+    ap (closed_by l n at) (closed_up m some ∙ ap (λ (x : List ℕ). drop 1 x ++ (y ∷ [])) parts)
+    ∙ ap (λ (x : List ℕ). set (left ++ (b ++ (y ∷ []) ++ x)) (n - 1) 0) r
+    ∙ ap (λ (x : List ℕ). set (left ++ x) (n - 1) 0) (append_snoc b y (drop n l))
+    ∙ ap (λ (x : List ℕ). set x (n - 1) 0) (sym (append_assoc left b (y ∷ drop n l)))
+    ∙ set_at (left ++ b) y (drop n l) 0 (n - 1) f
+    ∙ ap (λ (x : List ℕ). x ++ 0 ∷ drop n l) (sym t)
 
-  next : (i : ℕ) → at ≤ i → i + 1 < length l → get_or (without l at) i 0 ≡ get_or l (i + 1) 0
-  next i h k =
-      let p : length (take at l) ≡ at = length-take-le at l (omega arith) in
-      let e : i ≡ length (take at l) + (i - at) = omega (arith, p) in
-      let f : at + 1 + (i - at) ≡ i + 1 = omega arith in
-      ap (λ x. get_or (without l at) x 0) e ∙ get_or-append-add (take at l) (drop (at + 1) l) (i - at) 0 ∙ get_or-drop (at + 1) l (i - at) 0 ∙ ap (λ x. get_or l x 0) f
-
-  front : (i : ℕ) → at < length l → i < length l → length (take i (without l at)) ≡ i
-  front i h k = length-take-le i (without l at) (omega (arith, long h))
-
-  back : (i : ℕ) → i < length l → drop i l ≡ get_or l i 0 ∷ drop (i + 1) l
-  back i k = rw add-one (drop-cons l i 0 k)
-
-  pub shift_more : (i : ℕ) → at ≤ i → i + 1 < length l → set (shifted i) i (get_or (shifted i) (i + 1) 0) ≡ shifted (i + 1)
-  unfolding shifted
-  shift_more i h k =
-      let w = without l at in
-      let a : length (take i w) ≡ i = front i (omega arith) (omega arith) in
-      let j : i < length w = omega (arith, long (omega arith)) in
-      let d : drop i l ≡ get_or l i 0 ∷ drop (i + 1) l = back i (omega arith) in
-      let m : i + 1 ≡ length (take i w) + 1 = omega (arith, a) in
-      let v : get_or (take i w ++ drop i l) (i + 1) 0 ≡ get_or w i 0 =
-      ap (λ x. get_or (take i w ++ drop i l) x 0) m ∙ get_or-append-add (take i w) (drop i l) 1 0 ∙ get_or-drop i l 1 0 ∙ sym (next i h k) in
-      let t : take (i + 1) w ≡ take i w ++ (get_or w i 0 ∷ []) = rw add-one (take-suc w i 0 j) in
-      ap (λ x. set (take i w ++ drop i l) i x) v ∙ ap (λ x. set (take i w ++ x) i (get_or w i 0)) d
-      ∙ set_at (take i w) (get_or l i 0) (drop (i + 1) l) (get_or w i 0) i a
-      ∙ sym (append_snoc (take i w) (get_or w i 0) (drop (i + 1) l)) ∙ ap (λ x. x ++ drop (i + 1) l) (sym t)
-
-  -- and a zero where the last one stood
-  pub shift_end : (n i : ℕ) → at < n → n ≤ length l → i ≡ n - 1 → set (shifted i) i 0 ≡ removed l n at
-  unfolding shifted removed
-  shift_end n i h k e =
-      let a : length (take i (without l at)) ≡ i = front i (omega arith) (omega arith) in
-      let d : drop i l ≡ get_or l i 0 ∷ drop (i + 1) l = back i (omega arith) in
-      let m : i + 1 ≡ n = omega arith in
-      ap (λ x. set (take i (without l at) ++ x) i 0) d ∙ set_at (take i (without l at)) (get_or l i 0) (drop (i + 1) l) 0 i a
-      ∙ ap (λ (x : ℕ). take i (without l at) ++ (0 ∷ drop x l)) m ∙ ap (λ (x : ℕ). take x (without l at) ++ (0 ∷ drop n l)) e
-
--- ---- entries that move on
-
--- up to place i the entries stand where they stood; those from there to place `at`, without it, have moved one place on
-module _ (l : List ℕ) (at : ℕ) where
-  pub moved : ℕ → List ℕ
-  moved i = take (suc i) l ++ drop i (without l at)
-
-module _ (l : List ℕ) (at : ℕ) (h : at < length l) where
-  pub move_none : l ≡ moved l at at
-  unfolding moved
-  move_none =
-      let p : length (take at l) ≡ at = length-take-le at l (omega arith) in
-      rw (drop_at (take at l) (drop (at + 1) l) at p, add-one) (sym (take-append-drop (suc at) l))
-
-  -- before the place that is left out, the list is as it was
-  same : (i : ℕ) → i < at → get_or (without l at) i 0 ≡ get_or l i 0
-  same i k =
-      let p : length (take at l) ≡ at = length-take-le at l (omega arith) in
-      get_or-append (take at l) (drop (at + 1) l) 0 i (omega (arith, p)) ∙ get_or-take at l i 0 k
-
-  move_more : (i : ℕ) → i < at → set (moved l at (suc i)) (suc i) (get_or (moved l at (suc i)) i 0) ≡ moved l at i
-  unfolding moved
-  move_more i k =
-      let w = without l at in
-      let x = get_or l i 0 in
-      let y = get_or l (suc i) 0 in
-      let a : length (take (suc i) l) ≡ suc i = length-take-le (suc i) l (omega arith) in
-      let b : length (take (suc (suc i)) l) ≡ suc (suc i) = length-take-le (suc (suc i)) l (omega arith) in
-      let v : get_or (take (suc (suc i)) l ++ drop (suc i) w) i 0 ≡ x =
-      get_or-append (take (suc (suc i)) l) (drop (suc i) w) 0 i (omega (arith, b)) ∙ get_or-take (suc (suc i)) l i 0 (omega arith) in
-      let t : take (suc (suc i)) l ++ drop (suc i) w ≡ take (suc i) l ++ (y ∷ drop (suc i) w) =
-      ap (λ r. r ++ drop (suc i) w) (take-suc l (suc i) 0 (omega arith)) ∙ append_snoc (take (suc i) l) y (drop (suc i) w) in
-      let d : x ∷ drop (suc i) w ≡ drop i w = sym (drop-cons w i 0 (omega (arith, long l at h)) ∙ ap (λ r. r ∷ drop (suc i) w) (same i k)) in
-      ap (set (take (suc (suc i)) l ++ drop (suc i) w) (suc i)) v ∙ ap (λ r. set r (suc i) x) t
-      ∙ set_at (take (suc i) l) y (drop (suc i) w) x (suc i) a ∙ ap (λ r. take (suc i) l ++ r) d
-
-  -- one more, from place j to place i
-  pub move_back : (i j : ℕ) → 0 < i → i ≤ at → j ≡ i - 1 → set (moved l at i) i (get_or (moved l at i) j 0) ≡ moved l at j
-  move_back i j p q e =
-      let up : i ≡ suc j = omega arith in
-      rw up (move_more j (omega arith))
-
-  -- and another one at the head
-  pub move_end : (t : ℕ) → set (moved l at 0) 0 t ≡ t ∷ without l at
-  unfolding moved
-  move_end t = ap (λ r. set (r ++ without l at) 0 t) (take-suc l 0 0 (omega arith))
+long : (l : List ℕ) (at : ℕ) → at < length l → length (without l at) + 1 ≡ length l
+long l at h = simp (length-append, length-take, length-drop) (omega arith)
 
 -- ---- leaving
 
@@ -200,17 +146,11 @@ leaves_at (x ∷ l) t (suc i) d m h e =
     let ih = leaves_at l t i (both (not (member x l)) (distinct l) d).1 n.1 (omega arith) e in
     rw (ne_eqb x t (λ q. eqb-false t x n.0 (sym q))) (ap (λ (r : List ℕ). x ∷ r) ih)
 
+pub stays : (es : List ℕ) (n t : ℕ) → QueueStored es n → member t (take n es) ≡ false → queue_in es n ≡ queue_from (leaves (take n es) t)
+unfolding leaves
+stays es n t s out = s ∙ ap queue_from (sym (without_none (take n es) t out))
+
 module _ (es : List ℕ) (n t i : ℕ) (s : QueueStored es n) (f : FirstAt (take n es) t i) where
-  out : n ≤ i → member t (take n es) ≡ false
-  out h =
-      let all : take i (take n es) ≡ take n es = take_all i (take n es) (omega (arith, counted es n s)) in
-      ap (member t) (sym all) ∙ f.none_before
-
-  pub stays : n ≤ i → queue_in es n ≡ queue_from (leaves (take n es) t)
-  unfolding leaves
-  stays h =
-      s ∙ ap queue_from (sym (without_none (take n es) t (out h)))
-
   -- what is left of the threads, and of what is stored, where the one that was found is left out
   left : i < n → distinct (take n es) ≡ true → leaves (take n es) t ≡ without (take n es) i
   left h once =
@@ -239,14 +179,6 @@ module _ (es : List ℕ) (n t i : ℕ) (s : QueueStored es n) (f : FirstAt (take
       let e : n - 1 + 1 ≡ n = omega arith in
       let more : 0 ∷ zs ≡ zeros (64 - (n - 1)) = sym (zeros_open (n - 1) (omega arith) ∙ rw e) in
       rw (left h once) (queue_eq (ap (λ x. x ++ (0 ∷ drop n es)) head ∙ ap (λ x. without l i ++ (0 ∷ x)) tail ∙ ap (λ x. without l i ++ x) more ∙ rw w) (sym w))
-
-  -- one of the entries is found
-  pub there : member t (take n es) ≡ true → i < n
-  there m = go (dec_le n i)
-    where
-      go : Dec (n ≤ i) → i < n
-      go (no h) = omega arith
-      go (yes h) = clash m (out h)
 
   -- taken out, and put at the tail
   pub put_last : i < n → n ≤ 64 → distinct (take n es) ≡ true → queue_in (set (removed es n i) (n - 1) t) n ≡ queue_from (to_tail (take n es) t)
@@ -278,12 +210,16 @@ module _ (es : List ℕ) (n t i : ℕ) (s : QueueStored es n) (f : FirstAt (take
 
 -- ---- finding
 
--- one of the first n: there is a first one; and if it is not the last of them, it is one of those before
+-- one of the first n: there is a first one
 pub some_first : (l : List ℕ) (t n : ℕ) → member t (take n l) ≡ true → 0 < n
 unfolding any
 some_first l t zero m = clash m refl
 some_first l t (suc n) m = omega arith
 
-pub member_before : (l : List ℕ) (t i : ℕ) → i < length l → member t (take (i + 1) l) ≡ true → get_or l i 0 ≢ t → member t (take i l) ≡ true
-member_before l t i h m n =
-    sym (any_take (eqb t) l i h ∙ rw (ne_eqb t (get_or l i 0) (λ e. n (sym e))) (or-false (member t (take i l)))) ∙ m
+-- one that stands at the tail
+pub at_tail : (es : List ℕ) (n t : ℕ) → QueueStored es n → n ≤ 64 → distinct (take n es) ≡ true → member t (take n es) ≡ true → get_or es (n - 1) 0 ≡ t
+    → queue_in es n ≡ queue_from (to_tail (take n es) t)
+at_tail es n t s few once m e =
+    let some = some_first es t n m in
+    let full = sixty_four es n s few in
+    last_stays es n t (n - 1) s (first_at es n t (n - 1) (omega arith) once (omega arith) (sym e)) (omega arith) once

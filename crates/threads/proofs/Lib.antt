@@ -1,4 +1,4 @@
-pub mod TasksLaws
 pub mod EntriesLaws
 pub mod ActionsLaws
 pub mod TurnsLaws
+pub mod Searches

@@ -6,6 +6,7 @@ use Prim.Native.Nat.{ℕ, ◌≤◌, ◌<◌}
 use mathlib.Core.List.{List}
 use lib.ListN.{length, get_or, set, take, get_or-eq_default}
 use lib.Seq.{set_out, set-get_or}
+use borrow.Author.Tests.{ne_eqb}
 use native.Mathlib.Omega.{arith}
 use Rattle.sheet.specs.declared.Settings.{Settings}
 use Rattle.model.specs.State.{idle, absent, Thread}
@@ -18,9 +19,13 @@ use Rattle.model.proofs.Table.{threads_length, thread_at_law, slice_put}
 use Rattle.model.proofs.Slices.{uncounted}
 use Rattle.threads.specs.Entries.{queue_in, queue_from, QueueStored}
 use Rattle.threads.specs.Turned.{Turning, Turned}
-use Rattle.threads.proofs.TasksLaws.{spent_other}
 use Rattle.threads.proofs.EntriesLaws.{queue_stored}
 use Rattle.threads.proofs.ActionsLaws.{settled}
+
+-- no tick is the last of a slice where a thread has none
+pub spent_other : (o l : ℕ) → o ≢ round_robin → false ≡ spent o l
+unfolding spent
+spent_other o l n = rw (ne_eqb o round_robin n)
 
 module _ (o l q : List ℕ) (k t : ℕ) where
   -- the queue that the model's tick leaves

@@ -1,49 +1,82 @@
-// What each kind of event does to the threads and the ready queue, in the arrays that the caller lends. Each function is lent the arrays that
-// it reads or changes, and no other.
+// What each kind of event does to the threads and the ready queue, in the arrays that the caller lends.
 ghost use Rattle.std.specs.Prelude.{◌≡◌, true, ◌++◌, ◌∷◌, [], ◌<◌, ◌≤◌, eqb, take, set, get_or};
 ghost use Rattle.lists.specs.Lists.{member, distinct};
 ghost use Rattle.model.specs.State.{absent};
 ghost use Rattle.model.specs.Slices.{slice_for};
 ghost use Rattle.model.specs.Step.{created, leaves, requeued};
-ghost use Rattle.model.specs.Arrays.{columns, threads_in, tables_in, Regular};
+ghost use Rattle.model.specs.Arrays.{columns_in, tables_in, Regular, SameLoan};
 ghost use Rattle.threads.specs.Entries.{QueueStored, queue_in, queue_from};
 ghost use Rattle.event.specs.Bytes.{bytes_of};
 ghost use Rattle.threads.specs.Able.{Able, Acted};
+ghost use Rattle.threads.specs.Records.{thread_of, ThreadStored};
 
 use crate::{queue, tasks};
 use event::Event;
 use event::kinds::Action;
+use model::StateMut;
+use std::cmp::Ordering;
+
+// A thread's record, which stands in its place of the seven arrays.
+#[derive(Clone, Copy)]
+struct Thread {
+    exists: bool,
+    ready: bool,
+    partition: u8,
+    priority: u8,
+    mask: u8,
+    policy: u8,
+    slice: u8,
+}
+
+// The record of no thread.
+const ABSENT: Thread = Thread {
+    exists: false,
+    ready: false,
+    partition: 0,
+    priority: 0,
+    mask: 0,
+    policy: 0,
+    slice: 0,
+};
+
+// The record is stored.
+fn store(state: &mut StateMut<'_>, t: u8, thread: Thread)
+    requires { (t < 64) × Regular (columns_in state.old) }
+    ensures { ThreadStored state.old state.new t (thread_of thread) }
+{
+    let at = t as usize;
+    state.exists[at] = u8::from(thread.exists);
+    state.ready[at] = u8::from(thread.ready);
+    state.partitions[at] = thread.partition;
+    state.priorities[at] = thread.priority;
+    state.masks[at] = thread.mask;
+    state.policies[at] = thread.policy;
+    state.slices[at] = thread.slice;
+}
 
 // A new thread as the event says it, not ready, with a full slice.
-fn create(
-    exists: &mut [u8; 64],
-    ready: &mut [u8; 64],
-    partitions: &mut [u8; 64],
-    priorities: &mut [u8; 64],
-    masks: &mut [u8; 64],
-    policies: &mut [u8; 64],
-    slices: &mut [u8; 64],
-    event: Event,
-)
-    requires { (event.thread < 64)
-        × Regular (columns exists.old ready.old partitions.old priorities.old masks.old policies.old slices.old) }
-    ensures { (threads_in (columns exists.new ready.new partitions.new priorities.new masks.new
-        policies.new slices.new)
-        ≡ set (threads_in (columns exists.old ready.old partitions.old priorities.old masks.old
-        policies.old slices.old)) event.thread
-        (created event.partition event.priority event.mask event.policy))
-        × Regular (columns exists.new ready.new partitions.new priorities.new masks.new
-        policies.new slices.new) }
+fn create(state: &mut StateMut<'_>, event: Event)
+    requires { (event.thread < 64) × Regular (columns_in state.old) }
+    ensures { ThreadStored state.old state.new event.thread (created event.partition event.priority event.mask event.policy) }
 {
-    let at = event.thread as usize;
-    let slice = tasks::slice_for(event.policy);
-    exists[at] = 1;
-    ready[at] = 0;
-    partitions[at] = event.partition;
-    priorities[at] = event.priority;
-    masks[at] = event.mask;
-    policies[at] = event.policy;
-    slices[at] = slice;
+    let thread = Thread {
+        exists: true,
+        partition: event.partition,
+        priority: event.priority,
+        mask: event.mask,
+        policy: event.policy,
+        slice: tasks::slice_for(event.policy),
+        ..ABSENT
+    };
+    store(state, event.thread, thread);
+}
+
+// The thread's number is free again.
+fn forget(state: &mut StateMut<'_>, t: u8)
+    requires { (t < 64) × Regular (columns_in state.old) }
+    ensures { ThreadStored state.old state.new t absent }
+{
+    store(state, t, ABSENT);
 }
 
 // The thread joins the queue at its tail, and is ready, with a full slice.
@@ -61,9 +94,8 @@ fn join(
         × (queue_in queue.new result ≡ queue_from (take queued queue.old ++ (t ∷ []))) }
 {
     let at = t as usize;
-    let full = tasks::slice_for(policies[at]);
     ready[at] = 1;
-    slices[at] = full;
+    slices[at] = tasks::slice_for(policies[at]);
     queue::append(queue, queued, t)
 }
 
@@ -80,6 +112,7 @@ fn block(ready: &mut [u8; 64], queue: &mut [u8; 64], queued: u32, t: u8) -> u32
 
 // The thread has another priority. A ready thread that is raised goes to the tail of the queue, and one that is lowered to its head; one set to the
 // priority it has stays. A thread that is not ready only changes its number.
+#[tactic(auto, using(model::proofs::Ahead::requeued_raised, model::proofs::Ahead::requeued_lowered, model::proofs::Ahead::requeued_same, model::proofs::Ahead::requeued_unready))]
 fn set_priority(
     ready: &[u8; 64],
     priorities: &mut [u8; 64],
@@ -97,95 +130,57 @@ fn set_priority(
 {
     let at = t as usize;
     let old = priorities[at];
-    let on = ready[at];
     priorities[at] = priority;
-    if on != 1 {
+    if ready[at] != 1 {
         return;
     }
-    if old < priority {
-        queue::to_tail(queue, queued, t);
-        return;
+    match priority.cmp(&old) {
+        Ordering::Greater => queue::to_tail(queue, queued, t),
+        Ordering::Less => queue::to_head(queue, queued, t),
+        Ordering::Equal => {}
     }
-    if priority < old {
-        queue::to_head(queue, queued, t);
-    }
-}
-
-// The thread's number is free again.
-fn forget(
-    exists: &mut [u8; 64],
-    ready: &mut [u8; 64],
-    partitions: &mut [u8; 64],
-    priorities: &mut [u8; 64],
-    masks: &mut [u8; 64],
-    policies: &mut [u8; 64],
-    slices: &mut [u8; 64],
-    t: u8,
-)
-    requires { (t < 64) × Regular (columns exists.old ready.old partitions.old priorities.old masks.old policies.old slices.old) }
-    ensures { (threads_in (columns exists.new ready.new partitions.new priorities.new masks.new
-        policies.new slices.new)
-        ≡ set (threads_in (columns exists.old ready.old partitions.old priorities.old masks.old
-        policies.old slices.old)) t
-        absent)
-        × Regular (columns exists.new ready.new partitions.new priorities.new masks.new
-        policies.new slices.new) }
-{
-    let at = t as usize;
-    exists[at] = 0;
-    ready[at] = 0;
-    partitions[at] = 0;
-    priorities[at] = 0;
-    masks[at] = 0;
-    policies[at] = 0;
-    slices[at] = 0;
 }
 
 // What the event's kind does; a tick and a resume do nothing here. The answer is how many threads are queued.
-pub fn act(
-    exists: &mut [u8; 64],
-    ready: &mut [u8; 64],
-    partitions: &mut [u8; 64],
-    priorities: &mut [u8; 64],
-    masks: &mut [u8; 64],
-    policies: &mut [u8; 64],
-    slices: &mut [u8; 64],
-    queue: &mut [u8; 64],
-    queued: u32,
-    event: Event,
-) -> u32
-    requires { Able
-        (columns exists.old ready.old partitions.old priorities.old masks.old policies.old slices.old)
-        queue.old queued (bytes_of event) }
-    ensures { Acted
-        (tables_in (columns exists.old ready.old partitions.old priorities.old masks.old
-        policies.old slices.old) queue.old queued)
-        (tables_in (columns exists.new ready.new partitions.new priorities.new masks.new
-        policies.new slices.new) queue.new result)
-        (bytes_of event)
-        × Regular (columns exists.new ready.new partitions.new priorities.new masks.new
-        policies.new slices.new) }
+pub fn act(state: &mut StateMut<'_>, queued: u32, event: Event) -> u32
+    requires { Able (columns_in state.old) state.old.queue.now queued (bytes_of event) }
+    ensures loan { SameLoan state.old state.new }
+    ensures acted { Acted
+        (tables_in (columns_in state.old) state.old.queue.now queued)
+        (tables_in (columns_in state.new) state.new.queue.now result)
+        (bytes_of event) }
+    ensures regular { Regular (columns_in state.new) }
+    ensures rest { (state.new.used.now ≡ state.old.used.now) × (state.new.history.now ≡ state.old.history.now) }
 {
     let t = event.thread;
-    let action = event.action;
-    match action {
+    match event.action {
         Action::Create => {
-            create(
-                exists, ready, partitions, priorities, masks, policies, slices, event,
-            );
+            create(state, event);
             queued
         }
-        Action::Ready => join(ready, policies, slices, queue, queued, t),
-        Action::Block => block(ready, queue, queued, t),
+        Action::Ready => join(
+            state.ready,
+            state.policies,
+            state.slices,
+            state.queue,
+            queued,
+            t,
+        ),
+        Action::Block => block(state.ready, state.queue, queued, t),
         Action::SetPriority => {
-            set_priority(ready, priorities, queue, queued, t, event.priority);
+            set_priority(
+                state.ready,
+                state.priorities,
+                state.queue,
+                queued,
+                t,
+                event.priority,
+            );
             queued
         }
         Action::End => {
-            forget(
-                exists, ready, partitions, priorities, masks, policies, slices, t,
-            );
-            queue::leave(queue, queued, t)
+            forget(state, t);
+            queue::leave(state.queue, queued, t)
         }
         Action::Unknown | Action::Tick | Action::Resume => queued,
     }

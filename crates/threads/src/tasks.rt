@@ -18,52 +18,50 @@ pub const ROUND_ROBIN: u8 = 1;
 const FULL_SLICE: u8 = 4;
 
 // The whole slice of a thread of this policy.
+#[tactic(auto, unfolding(model::specs::Slices::slice_for))]
 pub fn slice_for(policy: u8) -> u8
     ensures { result ≡ slice_for policy }
 {
-    if policy == ROUND_ROBIN {
-        return FULL_SLICE;
+    match policy {
+        ROUND_ROBIN => FULL_SLICE,
+        _ => 0,
     }
-    0
 }
 
 // A tick that finds the thread running is the last of its slice.
+#[tactic(auto, unfolding(model::specs::Slices::spent))]
 pub fn is_spent(policy: u8, slice: u8) -> bool
     ensures { result ≡ spent policy slice }
 {
-    if policy != ROUND_ROBIN {
-        return false;
-    }
-    slice <= 1
+    policy == ROUND_ROBIN && slice <= 1
 }
 
-// The task block counted down, and its slice refilled at zero, if it is round robin.
-fn counted(t: Task) -> Task
-    ensures { result ≡ counted_of t }
-{
-    if t.policy != ROUND_ROBIN {
-        return t;
-    }
-    if t.slice <= 1 {
-        return Task {
-            policy: t.policy,
-            slice: FULL_SLICE,
+impl Task {
+    // The task block counted down, and its slice refilled at zero, if it is round robin.
+    #[tactic(auto, unfolding(crate::specs::Tasks::counted_of, model::specs::Slices::slice_after, model::specs::Slices::spent))]
+    fn counted(self) -> Task
+        ensures { result ≡ counted_of self }
+    {
+        if self.policy != ROUND_ROBIN {
+            return self;
+        }
+        let slice = match self.slice {
+            0 | 1 => FULL_SLICE,
+            left => left - 1,
         };
+        Task { slice, ..self }
     }
-    Task {
-        policy: t.policy,
-        slice: t.slice - 1,
-    }
-}
 
-// The form that the paper names for "the running thread's task block is counted down and its state changed": the block behind a reference.
-fn count_down(t: &mut Task)
-    ensures { t.new ≡ counted_of t.old }
-{
-    *t = counted(*t);
+    // The form that the paper names for "the running thread's task block is counted down and its state changed": the block behind a reference.
+    fn count_down(&mut self)
+        ensures { self.new ≡ counted_of self.old }
+    {
+        *self = self.counted();
+    }
 }
 
 // The task block of the running thread is taken out of the arrays, lent and counted down, and given back: of it only the slice changes.
+#[tactic(auto, unfolding(crate::specs::Tasks::counted_of))]
 pub fn count_running(policies: &[u8; 64], slices: &mut [u8; 64], at: usize)
     requires { at < 64 }
     ensures { slices.new ≡ set slices.old at (slice_after (get_or policies.now at 0) (get_or slices.old at 0)) }
@@ -72,6 +70,6 @@ pub fn count_running(policies: &[u8; 64], slices: &mut [u8; 64], at: usize)
         policy: policies[at],
         slice: slices[at],
     };
-    count_down(&mut task);
+    task.count_down();
     slices[at] = task.slice;
 }

@@ -5,12 +5,11 @@ ghost use Rattle.threads.specs.Turned.{Turning, Turned};
 
 use crate::tasks::ROUND_ROBIN;
 use crate::{queue, tasks};
-
-// The number of no thread: nothing runs.
-const IDLE: u32 = 255;
+use model::IDLE;
 
 // The running thread's task block is counted down, if it is round robin; at zero its slice is refilled, and the thread goes to the tail of the
 // queue. The answer is whether it went there.
+#[tactic(auto, using(crate::proofs::TurnsLaws::spent_idle, crate::proofs::TurnsLaws::turned_idle, crate::proofs::TurnsLaws::turned_other, crate::proofs::TurnsLaws::turned_stays, crate::proofs::TurnsLaws::turned_last, crate::proofs::TurnsLaws::spent_other))]
 pub fn turn(
     policies: &[u8; 64],
     slices: &mut [u8; 64],
@@ -27,15 +26,13 @@ pub fn turn(
         return false;
     }
     let at = running as usize;
-    let policy = policies[at];
-    if policy != ROUND_ROBIN {
+    if policies[at] != ROUND_ROBIN {
         return false;
     }
-    let last = tasks::is_spent(policy, slices[at]);
+    let last = tasks::is_spent(policies[at], slices[at]);
     tasks::count_running(policies, slices, at);
-    if !last {
-        return false;
+    if last {
+        queue::to_tail(queue, queued, running as u8);
     }
-    queue::to_tail(queue, queued, running as u8);
-    true
+    last
 }

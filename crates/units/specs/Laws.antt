@@ -1,5 +1,5 @@
 -- What document 01 says of the numbers that Units defines.
-use Rattle.std.specs.Prelude.{◌≡◌, ℕ, suc, ◌+◌, ◌-◌, ◌*◌, ◌/◌, ◌%◌, ◌^◌, ◌<◌, ◌≤◌, pos, negsuc, nat_le}
+use Rattle.std.specs.Prelude.{◌≡◌, ℕ, suc, ◌+◌, ◌-◌, ◌*◌, ◌%◌, ◌^◌, ◌<◌, ◌≤◌, pos, negsuc, nat_le}
 use Rattle.units.specs.Units.{budget_of, elapsed_of, remaining_of, need_of, has_budget_of}
 
 -- elapsed against the true counter: of two readings of one that does not wrap, less than a round of 32 bits apart, it is the true distance

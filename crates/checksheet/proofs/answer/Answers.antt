@@ -11,5 +11,5 @@ fits c room n written long is = rw (long, is) (written-fits _ _)
 pub slice_bounds-buffer-end : goal.slice_bounds-buffer-end
 slice_bounds-buffer-end g c = let w = c.write_sheet-writing in fits _ _ _ _ w.auto.buffer w.ensures.1
 
-pub slice_bounds-write_all-end : goal.slice_bounds-write_all-end
-slice_bounds-write_all-end g c = let w = c.write_sheet-writing in sym (length-take-le _ _ (fits _ _ _ _ w.auto.buffer w.ensures.1))
+pub slice_bounds-write_all-end-2 : goal.slice_bounds-write_all-end-2
+slice_bounds-write_all-end-2 g c = let w = c.write_sheet-writing in sym (length-take-le _ _ (fits _ _ _ _ w.auto.buffer w.ensures.1))

@@ -3,4 +3,4 @@ use borrow.Author.Rules.{rules}
 use Rattle.sets.proofs.mark.Goals as goal
 
 pub returns : goal.returns
-returns c = λ i b. marked c.args.set c.args.p i c.args.on c.requires b
+returns c = rw c.from.ensures (λ i b. marked c.args.set c.args.p i c.args.on c.requires b)

@@ -1,16 +1,18 @@
-use borrow.Author.Rules.{rules}
-use mathlib.Core.Path.{sym}
+use Rattle.std.proofs.Common.{◌≤◌, length, sym, arith}
 use Rattle.lists.specs.Lists.{total}
 use Rattle.sheet.specs.Settings.{W, C, share, refused_settings}
-use Rattle.sheet.proofs.LimitsLaws.{too_many}
+use Rattle.sheet.proofs.LimitsLaws.{too_many, first_shares}
 use Rattle.sheet.proofs.limits.Goals as goal
 
-pub returns-then-count-gt16 : goal.returns-then-count-gt16
+pub returns-then-settings-gt16 : goal.returns-then-settings-gt16
 unfolding refused_settings
-returns-then-count-gt16 c =
+returns-then-settings-gt16 c =
     let s = c.args.settings in
-    sym (too_many s.count (W s) (C s) s.policy s.core s.edition s.stated (total s.count (share s)) c.if-count-gt16.true)
+    sym (too_many s.count (W s) (C s) s.policy s.core s.edition s.stated (total s.count (share s)) c.if-settings-gt16.true)
 
 pub returns : goal.returns
 unfolding refused_settings
-returns c = search rules
+returns c =
+    let s = c.args.settings in
+    let room : s.count ≤ length s.shares = omega arith in
+    rw (c.limits_of.ensures, c.total_share-sum.ensures, first_shares s.shares s.count room)

@@ -1,16 +1,24 @@
-use mathlib.Core.Path.{sym, ◌∙◌}
-use Rattle.sheet.proofs.Answers.{refused-number, accepted-number, write-refused, write-short, write-fits}
+use mathlib.Core.Path.{sym, ap, ◌∙◌}
+use Rattle.std.proofs.lemmas.Result.{err_from_is_err_and}
+use Prim.Native.Nat.{◌≤◌, ◌<◌}
+use native.Mathlib.Omega.{arith}
+use Rattle.refusals.specs.Refusals.{number_of, outcome_of}
+use Rattle.sheet.specs.Sheet.{sheet_length}
+use Rattle.sheet.proofs.Answers.{refused_number, write_refused, write_short, write_fits}
 use Rattle.sheet.proofs.refused_write.Goals as goal
 
-pub returns-in_default : goal.returns-in_default
-returns-in_default c =
-    let limits = c.limits-outcome.ensures in
-    limits ∙ sym (write-refused c.args.settings c.args.room (refused-number c.in_default.field-0 c.in_default.is limits))
+pub returns-in_err-limits : goal.returns-in_err-limits
+returns-in_err-limits c =
+    let (y, e, q) = err_from_is_err_and c.from_residual.result c.from_residual.ensures.1 in
+    let number = ap outcome_of e ∙ ap number_of q ∙ c.in_err-limits.ensures in
+    number ∙ sym (write_refused c.args.settings c.args.room (refused_number c.in_err-limits.field-0.0 c.in_err-limits.was c.limits.ensures))
 
 pub returns-then-room-length : goal.returns-then-room-length
 returns-then-room-length c =
-    sym (write-short c.args.settings c.args.room (accepted-number c.in-Accepted.is c.limits-outcome.ensures) c.if-room-length.true)
+    let short : c.args.room < sheet_length c.args.settings = omega arith in
+    sym (write_short c.args.settings c.args.room (sym c.in_ok-limits.ensures) short)
 
 pub returns : goal.returns
 returns c =
-    sym (write-fits c.args.settings c.args.room (accepted-number c.in-Accepted.is c.limits-outcome.ensures) c.if-room-length.false)
+    let fits : sheet_length c.args.settings ≤ c.args.room = omega arith in
+    sym (write_fits c.args.settings c.args.room (sym c.in_ok-limits.ensures) fits)

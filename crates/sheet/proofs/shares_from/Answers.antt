@@ -1,16 +1,9 @@
-use mathlib.Core.Path.{refl}
-use native.Mathlib.Omega.{arith}
-use Rattle.lists.specs.Lists.{below}
-use Rattle.lists.proofs.Tables.{table_more}
+use Rattle.std.proofs.Common.{◌≡◌, ℕ, ◌+◌, get_or, refl, rules}
+use Rattle.units.specs.declared.Percent.{Percent}
+use Rattle.sheet.proofs.Calls.{made_table}
 use Rattle.sheet.proofs.shares_from.Goals as goal
-use Rattle.sheet.proofs.shares_from.Invariants.{shareAt}
 
-pub loop-p-init : goal.loop-p-init
-unfolding below
-loop-p-init c = (omega arith, refl)
-
-pub loop-p-preserved : goal.loop-p-preserved
-loop-p-preserved c = (
-  omega arith,
-  rw c.loop-p.invariant.1 (table_more (shareAt c.args.head c.args.values) (record { 0 = 0 }) 16 c.loop-p.p c.loop-p-test.true),
-)
+pub returns : goal.returns
+returns c =
+    let share : ℕ → Percent = λ p. record { 0 = get_or c.args.values (c.args.head + p) 0 } in
+    made_table _ (λ s. (s.0.now ≡ c.args.values) × (s.1.now ≡ c.args.head)) share (λ s t k y h call. search rules) 16 _ c.from_fn.result (refl, refl) c.from_fn.ensures.items

@@ -39,19 +39,17 @@ share-more head first values shares p room e =
 
 pub loop-p-init : goal.loop-p-init
 loop-p-init c =
-    let s = c.args.settings in (
-      omega arith,
-      rw c.stated_edition.ensures
-          (starts s.stated c.requires s.window.0 s.tick.0 s.policy s.core s.edition s.shares),
-    )
+    let s = c.args.settings in
+    rw (c.stated_edition.ensures, c.head-head.ensures) (starts s.stated c.requires s.window.0 s.tick.0 s.policy s.core s.edition s.shares)
 
 pub loop-p-preserved : goal.loop-p-preserved
 loop-p-preserved c =
     let turn = c.loop-p in
     let s = c.args.settings in
-    let room : 4 + s.stated + turn.p < 21 = omega (arith, c.requires, c.loop-p-test.true) in
+    let room : 4 + s.stated + turn.p < 21 = omega (arith, c.requires) in
     let first = stored s.window.0 s.tick.0 s.policy s.core c.stated_edition.result in
-    (omega arith, share-more (4 + s.stated) first turn.values s.shares turn.p room turn.invariant.1)
+    rw c.head-head.ensures
+    (share-more (4 + s.stated) first turn.values s.shares turn.p room (rw c.head-head.ensures at turn.invariant))
 
 pub returns : goal.returns
 unfolding values_for value_of

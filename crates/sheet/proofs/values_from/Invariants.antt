@@ -1,9 +1,6 @@
-use mathlib.Core.Path.{◌≡◌}
-use mathlib.Core.Bool.{cond}
-use mathlib.Core.List.{List, ◌++◌, map}
-use Prim.Native.Nat.{ℕ, ◌≤◌, ◌+◌, ◌-◌}
+use Rattle.std.proofs.Common.{◌≡◌, ℕ, ◌+◌, ◌-◌, cond, List, ◌++◌, map, get_or}
+use Rattle.std.proofs.Math.ListN.{replicate}
 use lib.Dec.{leb}
-use lib.ListN.{get_or, replicate}
 use Rattle.lists.specs.Lists.{below}
 use Rattle.units.specs.declared.Percent.{Percent}
 use Rattle.sheet.specs.Limits.{percent_at}
@@ -15,7 +12,4 @@ valueBy head first shares i = cond (leb head i) (percent_at shares (i - head)) (
 
 abbrev pub invariant-loop-p : goal.invariant-loop-p
 invariant-loop-p l =
-    (l.p ≤ 16) × (l.values ≡ map (valueBy l.head l.initial.values l.shares) (below (l.head + l.p)) ++ replicate (21 - (l.head + l.p)) 0)
-
-abbrev pub decreases-loop-p : goal.decreases-loop-p
-decreases-loop-p l = 16 - l.p
+    l.values ≡ map (valueBy l.head l.initial.values l.fn.settings.shares) (below (l.head + l.p)) ++ replicate (21 - (l.head + l.p)) 0

@@ -1,29 +1,32 @@
 -- `refused_state` is the number by which a state is refused.
-use Rattle.std.proofs.Common.{sym, ◌∙◌, arith}
-use Rattle.model.specs.Arrays.{columns}
-use Rattle.soundness.proofs.Limits.{refused_settings_law, refused_short, refused_sound, refused_unsound}
+use Rattle.std.proofs.Common.{sym, ◌∙◌}
+use Rattle.soundness.proofs.Limits.{limits_hold, limits_fail, refused_settings_law, refused_short, refused_sound, refused_unsound}
 use Rattle.soundness.proofs.refused_state.Goals as goal
 
-pub returns-then-not-within_limits : goal.returns-then-not-within_limits
-returns-then-not-within_limits c =
+pub returns-then-is_err : goal.returns-then-is_err
+returns-then-is_err c =
     let a = c.args in
-    refused_settings_law a.settings a.used.now a.clock (columns a.exists.now a.ready.now a.partitions.now a.priorities.now a.masks.now a.policies.now a.slices.now) a.queue.now a.history.now
-    (sym c.within_limits.ensures ∙ c.if-not-within_limits.true)
+    refused_settings_law a.settings a.clock a.state (limits_fail a.settings c.limits.result (sym c.is_err.ensures.value ∙ c.if-is_err.true) c.limits.ensures)
 
-pub returns-then-history-wanted : goal.returns-then-history-wanted
-returns-then-history-wanted c =
+pub returns-then-state-wanted : goal.returns-then-state-wanted
+returns-then-state-wanted c =
     let a = c.args in
-    refused_short a.settings a.used.now a.clock (columns a.exists.now a.ready.now a.partitions.now a.priorities.now a.masks.now a.policies.now a.slices.now) a.queue.now a.history.now
-    (sym c.within_limits.ensures ∙ c.if-not-within_limits.false) c.if-history-wanted.true
+    let within = limits_hold a.settings c.limits.result (sym c.is_err.ensures.value ∙ c.if-is_err.false) c.limits.ensures in
+    refused_short a.settings a.clock a.state within c.if-state-wanted.true
+
+pub sound-requires : goal.sound-requires
+sound-requires c =
+    let within = limits_hold c.args.settings c.limits.result (sym c.is_err.ensures.value ∙ c.if-is_err.false) c.limits.ensures in
+    (within, c.if-state-wanted.false)
 
 pub returns-then-sound : goal.returns-then-sound
 returns-then-sound c =
     let a = c.args in
-    refused_sound a.settings a.used.now a.clock (columns a.exists.now a.ready.now a.partitions.now a.priorities.now a.masks.now a.policies.now a.slices.now) a.queue.now a.history.now
-    (sym c.within_limits.ensures ∙ c.if-not-within_limits.false) c.sound.result (omega (arith, c.if-history-wanted.false)) c.sound.ensures c.if-sound.true
+    let within = limits_hold a.settings c.limits.result (sym c.is_err.ensures.value ∙ c.if-is_err.false) c.limits.ensures in
+    refused_sound a.settings a.clock a.state within c.if-state-wanted.false c.sound.ensures c.if-sound.true
 
-pub returns : goal.returns
-returns c =
+pub returns-else-sound : goal.returns-else-sound
+returns-else-sound c =
     let a = c.args in
-    refused_unsound a.settings a.used.now a.clock (columns a.exists.now a.ready.now a.partitions.now a.priorities.now a.masks.now a.policies.now a.slices.now) a.queue.now a.history.now
-    (sym c.within_limits.ensures ∙ c.if-not-within_limits.false) c.sound.result (omega (arith, c.if-history-wanted.false)) c.sound.ensures c.if-sound.false
+    let within = limits_hold a.settings c.limits.result (sym c.is_err.ensures.value ∙ c.if-is_err.false) c.limits.ensures in
+    refused_unsound a.settings a.clock a.state within c.if-state-wanted.false c.sound.ensures c.if-sound.false

@@ -9,20 +9,18 @@ use Rattle.soundness.proofs.rest_zero.Invariants.{none}
 
 pub loop-p-init : goal.loop-p-init
 unfolding all below
-loop-p-init c = (omega arith, refl)
+loop-p-init c = refl
 
 pub loop-p-preserved : goal.loop-p-preserved
 loop-p-preserved c =
     let a = c.args in
-    let turn = c.loop-p in (
-      omega arith,
-      none_past turn.p a.settings.count (share a.settings turn.p) (get_or a.used.now turn.p 0) turn.bits c.past-bits.result c.past-bits.ensures
-          ∙ rw turn.invariant.1 (all_next (none a.settings a.used.now) turn.p),
-    )
+    let turn = c.loop-p in
+    none_past turn.p a.settings.count (share a.settings turn.p) (get_or a.used.now turn.p 0) turn.bits _ c.past-bits.ensures
+    ∙ rw turn.invariant (all_next (none a.settings a.used.now) turn.p)
 
 pub returns : goal.returns
 unfolding rest_zero
 returns c =
     let a = c.args in
-    let e : c.loop-p.p ≡ 16 = omega (arith, c.loop-p-test.false) in
-    c.loop-p.invariant.1 ∙ ap (λ (i : ℕ). all (none a.settings a.used.now) (below i)) e
+    let e : c.loop-p.p ≡ 16 = omega arith in
+    c.loop-p.invariant ∙ ap (λ (i : ℕ). all (none a.settings a.used.now) (below i)) e

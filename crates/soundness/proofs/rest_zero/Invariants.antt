@@ -1,5 +1,5 @@
 -- `rest_zero` tests what lies past the last partition.
-use Rattle.std.proofs.Common.{◌≡◌, ℕ, ◌-◌, ◌≤◌, Bool, ◌&&◌, ◌||◌, eqb, ltb, List, get_or}
+use Rattle.std.proofs.Common.{◌≡◌, ℕ, Bool, ◌||◌, ◌&&◌, eqb, ltb, List, get_or}
 use Rattle.lists.specs.Lists.{all, below}
 use Rattle.sheet.specs.Settings.{share}
 use Rattle.sheet.specs.declared.Settings.{Settings}
@@ -9,7 +9,4 @@ abbrev pub none : Settings → List ℕ → ℕ → Bool
 none c u p = ltb p c.count || (eqb (share c p) 0 && eqb (get_or u p 0) 0)
 
 abbrev pub invariant-loop-p : goal.invariant-loop-p
-invariant-loop-p l = (l.p ≤ 16) × (eqb l.bits 0 ≡ all (none l.settings l.used) (below l.p))
-
-abbrev pub decreases-loop-p : goal.decreases-loop-p
-decreases-loop-p l = 16 - l.p
+invariant-loop-p l = eqb l.bits 0 ≡ all (none l.settings l.used) (below l.p)

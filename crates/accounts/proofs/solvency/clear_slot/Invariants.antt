@@ -1,6 +1,4 @@
 use mathlib.Core.Path.{◌≡◌}
-use Prim.Native.Nat.{◌-◌, ◌≤◌}
-use lib.ListN.{length}
 use Rattle.model.specs.Step.{clear_history}
 use Rattle.accounts.specs.Lowered.{lowered}
 use Rattle.accounts.specs.Solvency.{Reweighed}
@@ -8,8 +6,5 @@ use Rattle.accounts.proofs.solvency.clear_slot.Given as goal
 
 abbrev pub invariant-loop-p : goal.invariant-loop-p
 invariant-loop-p l =
-    (l.p ≤ l.count) × (l.used ≡ lowered l.w l.slot.0 l.p l.initial.used l.initial.history) × (l.history ≡ clear_history l.w l.slot.0 l.p l.initial.history) × (length l.history ≡ length l.initial.history) × (length l.used ≡ 16)
+    (l.used ≡ lowered l.w l.slot.0 l.p l.initial.used l.initial.history) × (l.history ≡ clear_history l.w l.slot.0 l.p l.initial.history)
     × Reweighed l.initial.used l.used l.budgets l.need.0 l.solvent l.set
-
-abbrev pub decreases-loop-p : goal.decreases-loop-p
-decreases-loop-p l = l.count - l.p

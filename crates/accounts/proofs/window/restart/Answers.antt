@@ -11,5 +11,5 @@ unfolding need
 returns c =
     let a = c.args in (
       restarted a.settings a.used.now a.c a.history.now _ a.stamp c.clear_rows.ensures,
-      subst (λ (x : ℕ). WeighedIn (replicate 16 0) a.budgets.now x a.settings.count c.weigh_all-set.result) c.need-need.ensures c.weigh_all-set.ensures,
+      subst (λ (x : ℕ). WeighedIn (replicate 16 0) a.budgets.now x a.settings.count c.weigh_all-solvent.result) c.need-need.ensures c.weigh_all-solvent.ensures,
     )

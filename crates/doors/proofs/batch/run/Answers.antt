@@ -1,27 +1,43 @@
-use Rattle.model.specs.Lent.{Lent, lent}
-use Rattle.model.specs.Arrays.{columns}
-use Rattle.doors.specs.Doors.{Sizes}
-use Rattle.doors.proofs.Lending.{ran_no, ran_yes}
+use mathlib.Core.Path.{ap, ◌∙◌}
+use native.Mathlib.Omega.{arith}
+use Rattle.std.proofs.lemmas.Result.{err_from_is_err_and}
+use Rattle.refusals.specs.Refusals.{number_of, outcome_of}
+use Rattle.model.specs.Arrays.{columns_in}
+use Rattle.model.specs.Lent.{Lent}
+use Rattle.doors.specs.Doors.{lent_in}
+use Rattle.doors.specs.Inner.{OpenedFrom}
+use Rattle.doors.proofs.Lending.{ran_as, ran_no, ran_yes}
+use Rattle.doors.proofs.Seeing.{opened_in, whole_in}
 use Rattle.doors.proofs.batch.run.Goals as goal
-use Rattle.doors.proofs.batch.run.Goals.{After-refused_state-outcome}
+use Rattle.doors.proofs.batch.run.Goals.{After-open}
 
--- what was lent, up to the test of the state
-abbrev given : After-refused_state-outcome → Lent
-given c =
+-- what was lent
+abbrev given : After-open → Lent
+given c = lent_in c.args.settings.now c.args.shares.now c.args.clock.now c.args.state.now
+
+opened : (c : After-open) → OpenedFrom (given c) c.open.result
+opened c = let a = c.args in opened_in a.state.now c.seen-seen.result c.seen-seen.ensures a.settings.now a.shares.now a.clock.now c.open.result c.open.ensures
+
+pub returns-in_err-opened-clause-ran : goal.returns-in_err-opened-clause-ran
+returns-in_err-opened-clause-ran c =
+    let t = (goal.at.returns-in_err-opened-clause-ran c).After-open in
+    let (r, e, q) = err_from_is_err_and c.from_residual.result c.from_residual.ensures.1 in
+    ran_as (ap outcome_of e ∙ ap number_of q) (ran_no (given t) t.open.result c.in_err-opened.field-0.0 (opened t) c.in_err-opened.was c.args.events.now c.args.out.now)
+
+pub steps-after-requires : goal.steps-after-requires
+steps-after-requires c =
+    let a = c.args in (
+      whole_in a.state.now c.seen-seen.result c.seen-seen.ensures a.settings.now a.shares.now a.clock.now c.open.result c.open.ensures
+          c.in_ok-opened.opened c.in_ok-opened.was c.beside-beside.result c.beside-beside.ensures,
+      omega arith,
+      omega arith,
+    )
+
+pub returns-clause-ran : goal.returns-clause-ran
+returns-clause-ran c =
+    let t = (goal.at.returns-clause-ran c).After-open in
     let a = c.args in
-    lent a.settings.now a.shares.now a.used.now a.clock.now (columns a.exists.now a.ready.now a.partitions.now a.priorities.now a.masks.now a.policies.now a.slices.now) a.queue.now a.history.now
-
-lengths : (c : After-refused_state-outcome) → Sizes (given c)
-lengths c = let z = c.sized.ensures in record { used = z.0; queue = z.1 }
-
-pub returns-in-Refused : goal.returns-in-Refused
-returns-in-Refused c =
-    let t = (goal.at.returns-in-Refused c).After-refused_state-outcome in
-    ran_no (given t) t.settings_in-s.result t.clock_in-c.result t.settings_in-s.ensures t.clock_in-c.ensures (lengths t) t.args.events.now t.args.out.now t.refused_state-outcome.result _ c.in-Refused.is t.refused_state-outcome.ensures
-
-pub returns-in-Accepted : goal.returns-in-Accepted
-returns-in-Accepted c =
-    let t = (goal.at.returns-in-Accepted c).After-refused_state-outcome in
-    let f = c.enter-k in
-    ran_yes (given t) t.settings_in-s.result t.clock_in-c.result t.settings_in-s.ensures t.clock_in-c.ensures f.new.used f.result (columns f.new.exists f.new.ready f.new.partitions f.new.priorities f.new.masks f.new.policies f.new.slices) f.new.queue f.new.history c.keep.new.clock (lengths t) t.args.events.now t.args.out.now f.new.out t.refused_state-outcome.result
-    c.in-Accepted.is t.refused_state-outcome.ensures f.ensures c.keep.ensures
+    let s = c.steps-after in
+    let y = s.new.state in
+    ran_yes (given t) t.open.result c.in_ok-opened.opened (opened t) c.in_ok-opened.was y.used.now s.result (columns_in y) y.queue.now y.history.now
+    a.events.now a.out.now s.new.out _ s.ensures.after s.ensures.lines s.ensures.sound (omega arith) c.into.result c.into.ensures

@@ -1,56 +1,34 @@
-use mathlib.Core.Path.{sym, ap, ◌∙◌}
-use Rattle.refusals.specs.Refusals.{outcome_of}
-use Rattle.model.specs.Answers.{decided_of}
-use Rattle.model.specs.Lent.{Lent, lent}
-use Rattle.model.specs.Arrays.{columns, state_of}
-use Rattle.model.specs.Policy.{decide}
-use Rattle.decision.specs.Upkeep.{worked_for}
-use Rattle.decision.proofs.UpkeepLaws.{favoured_is}
-use Rattle.doors.specs.Inner.{Room}
-use Rattle.doors.proofs.Entering.{begins, regular, settled, working}
-use Rattle.doors.proofs.Lending.{room}
+use mathlib.Core.Path.{ap, ◌∙◌}
+use Rattle.std.proofs.lemmas.Result.{err_from_is_err_and}
+use Rattle.std.specs.Prelude.{Err}
+use Rattle.model.specs.Answers.{line_of, decided_of}
+use Rattle.model.specs.Lent.{Lent}
+use Rattle.doors.specs.Doors.{lent_seen}
+use Rattle.decision.specs.Leads.{tops_of, firsts_of}
+use Rattle.doors.proofs.Entering.{decides}
+use Rattle.doors.proofs.Lending.{refused, taken}
 use Rattle.doors.proofs.Looking.{decision_no, decision_yes}
+use Rattle.doors.proofs.Seeing.{fits}
 use Rattle.doors.proofs.queries.decision.Goals as goal
-use Rattle.doors.proofs.queries.decision.Goals.{After-refused_state-outcome}
+use Rattle.doors.proofs.queries.decision.Goals.{After-open}
 
--- what was lent, up to the test of the state
-abbrev given : After-refused_state-outcome → Lent
-given c =
-    let a = c.args in
-    lent a.settings.now a.shares.now a.used.now a.clock.now (columns a.exists.now a.ready.now a.partitions.now a.priorities.now a.masks.now a.policies.now a.slices.now) a.queue.now a.history.now
+-- what was lent
+abbrev given : After-open → Lent
+given c = lent_seen c.args.settings.now c.args.shares.now c.args.clock.now c.args.state
 
-ready_room : (c : After-refused_state-outcome)
-    → Room c.settings_in-s.result (given c).used (given c).threads (given c).queue
-ready_room c =
-    let z = c.sized.ensures in
-    let x = given c in
-    room c.settings_in-s.result x.settings x.shares x.used x.threads x.queue c.settings_in-s.ensures z.0 z.1 z.2
+pub returns-in_err-opened : goal.returns-in_err-opened
+returns-in_err-opened c =
+    let t = (goal.at.returns-in_err-opened c).After-open in
+    let (r, e, q) = err_from_is_err_and c.from_residual.result c.from_residual.ensures.1 in
+    ap line_of (e ∙ ap Err q) ∙ decision_no (given t) c.in_err-opened.field-0.0 (refused (given t) t.open.result c.in_err-opened.field-0.0 t.open.ensures c.in_err-opened.was)
 
-pub begin-sets-requires : goal.begin-sets-requires
-begin-sets-requires c =
-    let t = (goal.at.begin-sets-requires c).After-refused_state-outcome in
-    begins t.settings_in-s.result (given t).used t.clock_in-c.result (given t).threads (given t).queue (given t).history (ready_room t) (sym t.refused_state-outcome.ensures ∙ ap outcome_of c.in-Accepted.is)
-
-pub favoured_in-favoured-requires : goal.favoured_in-favoured-requires
-favoured_in-favoured-requires c =
-    let t = (goal.at.favoured_in-favoured-requires c).After-refused_state-outcome in
-    working t.settings_in-s.result (given t).used t.clock_in-c.result (given t).threads (given t).queue (given t).history (ready_room t) (sym t.refused_state-outcome.ensures ∙ ap outcome_of c.in-Accepted.is)
-
-pub returns-in-Refused : goal.returns-in-Refused
-returns-in-Refused c =
-    let t = (goal.at.returns-in-Refused c).After-refused_state-outcome in
-    decision_no (given t) t.settings_in-s.result t.clock_in-c.result t.settings_in-s.ensures t.clock_in-c.ensures t.refused_state-outcome.result t.refused_state-outcome.ensures _ c.in-Refused.is
-
-pub returns-in-Accepted : goal.returns-in-Accepted
-returns-in-Accepted c =
-    let t = (goal.at.returns-in-Accepted c).After-refused_state-outcome in
-    let f = c.in-Accepted.is in
-    let z = sym t.refused_state-outcome.ensures ∙ ap outcome_of f in
+pub returns : goal.returns
+returns c =
+    let t = (goal.at.returns c).After-open in
     let x = given t in
-    let s = t.settings_in-s.result in
-    let k = t.clock_in-c.result in
-    let sized = regular s x.used k x.threads x.queue x.history (ready_room t) z in
-    decision_yes x s k t.settings_in-s.ensures t.clock_in-c.ensures t.refused_state-outcome.result t.refused_state-outcome.ensures f (decided_of c.choose.result)
-    (c.choose.ensures k x.threads x.queue x.history (worked_for x.threads.partitions k.running) sized
-    (settled s x.used k x.threads x.queue x.history (ready_room t) z) c.begin-sets.ensures c.favoured_in-favoured.ensures
-    ∙ ap (decide (state_of s x.used k x.threads x.queue)) (favoured_is s x.used k x.threads x.queue sized))
+    let i = c.in_ok-opened.opened in
+    let z = fits x t.open.result i t.open.ensures c.in_ok-opened.was in
+    let v = c.beside-favoured.result.cache in
+    decision_yes x (taken x t.open.result i t.open.ensures c.in_ok-opened.was) i (t.open.ensures.opened i c.in_ok-opened.was) (decided_of c.choose.result)
+    (decides i.settings x.used i.clock x.threads x.queue x.history z.0 z.1 v.budgets (tops_of v.leads) (firsts_of v.leads) v.sets c.beside-favoured.result.favoured
+    c.beside-favoured.ensures.held c.beside-favoured.ensures.favours c.choose.result c.choose.ensures)

@@ -1,30 +1,56 @@
-use mathlib.Core.Path.{ap}
-use Rattle.model.specs.Lent.{Lent, lent}
-use Rattle.model.specs.Answers.{Line}
-use Rattle.model.specs.Arrays.{columns}
-use Rattle.doors.specs.Doors.{Sizes}
-use Rattle.doors.proofs.Lending.{answered_no, answered_yes}
+use mathlib.Core.Path.{sym, ap, subst, ◌∙◌}
+use Prim.Native.Nat.{ℕ}
+use mathlib.Core.List.{List}
+use Rattle.std.proofs.lemmas.Result.{err_from_is_err_and}
+use Rattle.std.specs.Prelude.{Result, Ok, Err}
+use Rattle.refusals.specs.declared.Refusal.{Refusal}
+use Rattle.model.specs.Answers.{line_of}
+use Rattle.model.specs.Arrays.{columns_in}
+use Rattle.model.specs.Lent.{Lent}
+use Rattle.model.specs.declared.Decision.{Decision}
+use Rattle.decision.specs.Leads.{tops_of, firsts_of}
+use Rattle.doors.specs.Doors.{lent_in, lent_seen, Answered}
+use Rattle.doors.specs.Inner.{OpenedFrom}
+use Rattle.doors.proofs.Lending.{answered_as, answered_no, answered_yes, answered_refused}
+use Rattle.doors.proofs.Seeing.{fits, opened_in, whole_in}
 use Rattle.doors.proofs.single.event.Goals as goal
-use Rattle.doors.proofs.single.event.Goals.{After-refused_state-outcome}
+use Rattle.doors.proofs.single.event.Goals.{After-open}
 
--- what was lent, up to the test of the state
-abbrev given : After-refused_state-outcome → Lent
-given c =
+-- what was lent
+abbrev given : After-open → Lent
+given c = lent_in c.args.settings.now c.args.shares.now c.args.clock.now c.args.state.now
+
+opened : (c : After-open) → OpenedFrom (given c) c.open.result
+opened c = let a = c.args in opened_in a.state.now c.seen-seen.result c.seen-seen.ensures a.settings.now a.shares.now a.clock.now c.open.result c.open.ensures
+
+pub returns-in_err-opened-clause-answered : goal.returns-in_err-opened-clause-answered
+returns-in_err-opened-clause-answered c =
+    let t = (goal.at.returns-in_err-opened-clause-answered c).After-open in
+    let (r, e, q) = err_from_is_err_and c.from_residual.result c.from_residual.ensures.1 in
+    answered_as (ap line_of (e ∙ ap Err q)) (answered_no (given t) t.open.result c.in_err-opened.field-0.0 (opened t) c.in_err-opened.was c.args.event.now)
+
+pub step-stepped-requires : goal.step-stepped-requires
+step-stepped-requires c =
     let a = c.args in
-    lent a.settings.now a.shares.now a.used.now a.clock.now (columns a.exists.now a.ready.now a.partitions.now a.priorities.now a.masks.now a.policies.now a.slices.now) a.queue.now a.history.now
+    whole_in a.state.now c.seen-seen.result c.seen-seen.ensures a.settings.now a.shares.now a.clock.now c.open.result c.open.ensures
+    c.in_ok-opened.opened c.in_ok-opened.was c.beside-beside.result c.beside-beside.ensures
 
-lengths : (c : After-refused_state-outcome) → Sizes (given c)
-lengths c = let z = c.sized.ensures in record { used = z.0; queue = z.1 }
+pub returns-in_err-decision-clause-answered : goal.returns-in_err-decision-clause-answered
+returns-in_err-decision-clause-answered c =
+    let t = (goal.at.returns-in_err-decision-clause-answered c).After-open in
+    let (r, e, q) = err_from_is_err_and c.from_residual-in_err-decision.result c.from_residual-in_err-decision.ensures.1 in
+    let s = c.step-stepped in
+    let y = s.new.state in
+    let v = s.new.cache in
+    answered_as (ap line_of (e ∙ ap Err q))
+    (answered_refused (given t) t.open.result c.in_ok-opened.opened (opened t) c.in_ok-opened.was y.used.now s.result.clock (columns_in y) y.queue.now y.history.now
+    c.args.event.now s.result.verdict v.budgets (tops_of v.leads) (firsts_of v.leads) v.sets s.result.favoured s.ensures.answered s.ensures.still c.in_err-decision.field-0.0 c.in_err-decision.was)
 
-pub returns-in-Refused : goal.returns-in-Refused
-returns-in-Refused c =
-    let t = (goal.at.returns-in-Refused c).After-refused_state-outcome in
-    answered_no (given t) t.settings_in-s.result t.clock_in-c.result t.settings_in-s.ensures t.clock_in-c.ensures (lengths t) t.args.event.now t.refused_state-outcome.result _ c.in-Refused.is t.refused_state-outcome.ensures
-
-pub returns-in-Accepted : goal.returns-in-Accepted
-returns-in-Accepted c =
-    let t = (goal.at.returns-in-Accepted c).After-refused_state-outcome in
-    let f = c.enter-reply in
-    let n = c.verdict_numbers in
-    answered_yes (given t) t.settings_in-s.result t.clock_in-c.result t.settings_in-s.ensures t.clock_in-c.ensures f.new.used f.result.clock (columns f.new.exists f.new.ready f.new.partitions f.new.priorities f.new.masks f.new.policies f.new.slices) f.new.queue f.new.history c.keep.new.clock (lengths t) t.args.event.now t.refused_state-outcome.result f.result.verdict n.result.refusal
-    c.in-Accepted.is t.refused_state-outcome.ensures (ap (λ (l : Line). l.refusal) n.ensures) f.ensures c.keep.ensures
+pub returns-clause-answered : goal.returns-clause-answered
+returns-clause-answered c =
+    let t = (goal.at.returns-clause-answered c).After-open in
+    let s = c.step-stepped in
+    let y = s.new.state in
+    let v = s.new.cache in
+    answered_yes (given t) t.open.result c.in_ok-opened.opened (opened t) c.in_ok-opened.was y.used.now s.result.clock (columns_in y) y.queue.now y.history.now
+    c.args.event.now s.result.verdict v.budgets (tops_of v.leads) (firsts_of v.leads) v.sets s.result.favoured s.ensures.answered s.ensures.still c.in_ok-decision.decision c.in_ok-decision.was c.into.result c.into.ensures

@@ -1,22 +1,24 @@
 use mathlib.Core.Path.{◌≡◌}
 use mathlib.Core.List.{◌++◌}
-use Prim.Native.Nat.{◌-◌, ◌*◌, ◌≤◌}
+use Prim.Native.Nat.{◌*◌}
 use lib.ListN.{drop}
-use Rattle.model.specs.Arrays.{columns, state_of}
-use Rattle.model.specs.Step.{saved}
-use Rattle.model.specs.Run.{run, after}
-use Rattle.scheduler.specs.Stepping.{Whole}
+use Rattle.model.specs.Arrays.{SameLoan}
+use Rattle.model.specs.Run as Run
 use Rattle.model.specs.Stream.{events_in, lines_of}
+use Rattle.scheduler.specs.Effects.{saved_of}
+use Rattle.scheduler.specs.Stepping.{WholeIn}
+use Rattle.scheduler.proofs.Cutting.{Cut}
 use Rattle.scheduler.proofs.batch.steps.Given as goal
 
 abbrev pub invariant-loop-i : goal.invariant-loop-i
 invariant-loop-i l =
-    let v = saved (state_of l.settings l.initial.used l.initial.t (columns l.initial.exists l.initial.ready l.initial.partitions l.initial.priorities l.initial.masks l.initial.policies l.initial.slices) l.initial.queue) l.initial.history in
-    (l.i ≤ l.n)
-    × (saved (state_of l.settings l.used l.t (columns l.exists l.ready l.partitions l.priorities l.masks l.policies l.slices) l.queue) l.history ≡ after v (events_in l.events l.i))
-    × (l.out ≡ lines_of (run v (events_in l.events l.i)) ++ drop (12 * l.i) l.initial.out)
-    × Whole l.settings l.used l.t (columns l.exists l.ready l.partitions l.priorities l.masks l.policies l.slices) l.queue l.history l.budgets l.tops l.firsts l.kept l.ran
-
-abbrev pub decreases-loop-i : goal.decreases-loop-i
-decreases-loop-i l =
-    l.n - l.i
+    let v = saved_of l.fn.settings l.fn.state l.fn.clock in
+    let taken = events_in l.events l.i-iterator.count in
+    record {
+      cut : Cut l.events l.n l.i-iterator;
+      after : saved_of l.settings l.state l.clock ≡ Run.after v taken;
+      lines : l.out ≡ lines_of (Run.run v taken) ++ drop (12 * l.i-iterator.count) l.fn.out;
+      whole : WholeIn l.settings l.state l.clock l.cache l.favoured;
+      priced : l.cache.budgets ≡ l.fn.cache.budgets;
+      loan : SameLoan l.fn.state l.state;
+    }

@@ -1,13 +1,6 @@
-use mathlib.Core.Path.{◌≡◌}
-use mathlib.Core.List.{◌++◌}
-use Prim.Native.Nat.{◌≤◌, ◌-◌, ◌*◌}
-use lib.ListN.{get_or, drop}
+use Rattle.std.proofs.Common.{◌≡◌, ◌*◌, ◌++◌, get_or, drop}
 use Rattle.sheet.specs.Order.{records_of}
 use Rattle.sheet.proofs.order.write_records.Given as goal
 
 abbrev pub invariant-loop-i : goal.invariant-loop-i
-invariant-loop-i l =
-    (l.i ≤ l.n) × (l.buffer ≡ records_of l.head (λ j. get_or l.values j 0) l.i ++ drop (12 * l.i) l.initial.buffer)
-
-abbrev pub decreases-loop-i : goal.decreases-loop-i
-decreases-loop-i l = l.n - l.i
+invariant-loop-i l = l.buffer ≡ records_of l.head (λ j. get_or l.values j 0) l.i ++ drop (12 * l.i) l.initial.buffer

@@ -1,5 +1,5 @@
 -- `equal` compares every flag.
-use Rattle.std.proofs.Common.{◌≡◌, ℕ, ◌-◌, ◌≤◌, Bool, eqb, List, get_or}
+use Rattle.std.proofs.Common.{◌≡◌, ℕ, Bool, eqb, List, get_or}
 use Rattle.lists.specs.Lists.{all, below}
 use Rattle.soundness.proofs.queue.equal.Given as goal
 
@@ -7,7 +7,4 @@ abbrev pub agrees : List ℕ → List ℕ → ℕ → Bool
 agrees a b t = eqb (get_or a t 0) (get_or b t 0)
 
 abbrev pub invariant-loop-t : goal.invariant-loop-t
-invariant-loop-t l = (l.t ≤ 64) × (eqb l.bits 0 ≡ all (agrees l.a l.b) (below l.t))
-
-abbrev pub decreases-loop-t : goal.decreases-loop-t
-decreases-loop-t l = 64 - l.t
+invariant-loop-t l = eqb l.bits 0 ≡ all (agrees l.a l.b) (below l.t)

@@ -10,9 +10,9 @@ loop-i-preserved c =
     let turn = c.loop-i in
     let q = c.args.queue.now in
     let x = get_or q turn.i 0 in
-    (omega arith, rw (← or_none turn.bits x, zero_same x) (all_drop (eqb 0) q turn.i (eqb turn.bits 0) (omega (arith, c.requires.long)) ∙ turn.invariant.1))
+    rw (← or_none turn.bits x, zero_same x) (all_drop (eqb 0) q turn.i (eqb turn.bits 0) (omega arith)) ∙ turn.invariant
 
 pub returns : goal.returns
 returns c =
     let turn = c.loop-i in
-    sym (and-true (eqb turn.bits 0)) ∙ (rw (all_past (eqb 0) c.args.queue.now turn.i (omega (arith, c.requires.long))) at turn.invariant.1)
+    sym (and-true (eqb turn.bits 0)) ∙ (rw (all_past (eqb 0) c.args.queue.now turn.i (omega arith)) at turn.invariant)

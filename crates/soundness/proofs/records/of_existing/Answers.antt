@@ -1,9 +1,0 @@
--- `of_existing` gives a byte of a thread that exists.
-use Rattle.std.proofs.Common.{arith}
-use Rattle.soundness.proofs.Clauses.{of_existing}
-use Rattle.soundness.proofs.records.of_existing.Goals as goal
-
-pub returns : goal.returns
-returns c =
-    let a = c.args in
-    of_existing a.exists a.byte c.wrapping_sub_u8.result (omega arith) (omega arith) c.wrapping_sub_u8.ensures.value
