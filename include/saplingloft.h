@@ -17,7 +17,7 @@
  * Both together can be written to a file and read back later. Beside them a file has to hold SAPLINGLOFT_VERSION and the state's size, because the
  * state itself tells neither; examples/embed.c shows it. Numbers lie in it as the processor has them, so a file is for processors of one byte order.
  *
- * Sizes: the state has 688 bytes, the history 4 * count * window, which is at most 25,600. Of code the archive for x86-64 has 27 KB, 10 KB of them for
+ * Sizes: the state has 688 bytes, the history 4 * count * window, which is at most 25,600. Of code the archive for x86-64 has 26 KB, 10 KB of them for
  * saplingloft_run alone, which a program that makes no runs does not link. A call there takes at most SAPLINGLOFT_STACK bytes of stack, as
  * tools/stack.c measures them; `make board` prints these figures for other processors.
  *
