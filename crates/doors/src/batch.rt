@@ -23,7 +23,8 @@ pub fn run(
 {
     let seen = state.seen();
     let opened = opening::open(settings, shares, clock, seen)?;
-    let mut beside = opened.beside(seen);
+    let mut beside = opening::NOTHING;
+    opened.keep(seen, &mut beside);
     let records = events.len().div_ceil(12).min(out.len() / 12);
     let after = batch::steps(
         opened.settings,

@@ -28,6 +28,12 @@ pub struct Beside {
     pub favoured: u16,
 }
 
+// What is kept before anything was begun.
+pub const NOTHING: Beside = Beside {
+    cache: kept::NOTHING,
+    favoured: 0,
+};
+
 // The lengths of what is lent, which the types of the references to it tell.
 fn sized(
     used: &[u32; 16],
@@ -72,15 +78,13 @@ pub fn open(
 }
 
 impl Opened {
-    // What is kept beside the state is made.
-    pub fn beside(&self, state: StateRef<'_>) -> Beside
+    // What is kept beside the state is made, where it lies.
+    pub fn keep(&self, state: StateRef<'_>, beside: &mut Beside)
         requires { Room self.now.settings state.used.now (columns_seen state) state.queue.now × (refused_arrays self.now.settings state.used.now self.now.clock (columns_seen state) state.queue.now state.history.now ≡ 0) }
-        ensures { Begins self.now.settings self.now.clock state.entry result }
+        ensures { Begins self.now.settings self.now.clock state.entry beside.new }
     {
         let queue = ReadyQueue::of(state, self.clock.queued, self.settings.core);
-        Beside {
-            cache: Cache::begin(self.settings, state.used, queue),
-            favoured: kept::favoured_in(state.partitions, self.clock.running),
-        }
+        beside.cache.begin(self.settings, state.used, queue);
+        beside.favoured = kept::favoured_in(state.partitions, self.clock.running);
     }
 }

@@ -6,7 +6,6 @@ ghost use Rattle.model.specs.Doors as Doors;
 ghost use Rattle.doors.specs.Doors.{lent_seen};
 
 use crate::opening;
-use crate::opening::Beside;
 use model::{Decision, StateRef};
 use refusals::Refusal;
 use units::Cycles;
@@ -23,8 +22,9 @@ pub fn decision(
     ensures { line_of result ≡ Doors.decision (lent_seen settings.now shares.now clock.now state.entry) }
 {
     let opened = opening::open(settings, shares, clock, state)?;
-    let Beside { cache, favoured } = opened.beside(state);
-    Ok(cache.choose(opened.settings, state.used, favoured))
+    let mut beside = opening::NOTHING;
+    opened.keep(state, &mut beside);
+    Ok(beside.cache.choose(opened.settings, state.used, beside.favoured))
 }
 
 // The remaining door: what remains of the partition's budget, below zero after an overrun. It refuses what the decision door refuses, and

@@ -21,7 +21,8 @@ pub fn event(
 {
     let seen = state.seen();
     let opened = opening::open(settings, shares, clock, seen)?;
-    let mut beside = opened.beside(seen);
+    let mut beside = opening::NOTHING;
+    opened.keep(seen, &mut beside);
     let stepped = scheduler::step(
         opened.settings,
         state,

@@ -28,7 +28,7 @@ returns c =
     let x = given t in
     let i = c.in_ok-opened.opened in
     let z = fits x t.open.result i t.open.ensures c.in_ok-opened.was in
-    let v = c.beside-favoured.result.cache in
+    let v = c.keep.new.beside.cache in
     decision_yes x (taken x t.open.result i t.open.ensures c.in_ok-opened.was) i (t.open.ensures.opened i c.in_ok-opened.was) (decided_of c.choose.result)
-    (decides i.settings x.used i.clock x.threads x.queue x.history z.0 z.1 v.budgets (tops_of v.leads) (firsts_of v.leads) v.sets c.beside-favoured.result.favoured
-    c.beside-favoured.ensures.held c.beside-favoured.ensures.favours c.choose.result c.choose.ensures)
+    (decides i.settings x.used i.clock x.threads x.queue x.history z.0 z.1 v.budgets (tops_of v.leads) (firsts_of v.leads) v.sets c.keep.new.beside.favoured
+    c.keep.ensures.held c.keep.ensures.favours c.choose.result c.choose.ensures)

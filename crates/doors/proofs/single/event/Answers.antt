@@ -33,7 +33,7 @@ pub step-stepped-requires : goal.step-stepped-requires
 step-stepped-requires c =
     let a = c.args in
     whole_in a.state.now c.seen-seen.result c.seen-seen.ensures a.settings.now a.shares.now a.clock.now c.open.result c.open.ensures
-    c.in_ok-opened.opened c.in_ok-opened.was c.beside-beside.result c.beside-beside.ensures
+    c.in_ok-opened.opened c.in_ok-opened.was c.keep.new.beside c.keep.ensures
 
 pub returns-in_err-decision-clause-answered : goal.returns-in_err-decision-clause-answered
 returns-in_err-decision-clause-answered c =
