@@ -53,7 +53,16 @@ fn sound(settings: Settings, clock: Clock, state: StateRef<'_>) -> bool
     requires { (within_limits settings ≡ true) × (settings.count * W settings ≤ length state.history.now) }
     ensures { result ≡ sound_in settings state.entry.used.now clock (columns_seen state.entry) state.entry.queue.now state.entry.history.now }
 {
-    if !records::sound_threads(state, settings.count as u8) {
+    if !records::sound_threads(
+        state.exists,
+        state.ready,
+        state.partitions,
+        state.priorities,
+        state.masks,
+        state.policies,
+        state.slices,
+        settings.count as u8,
+    ) {
         return false;
     }
     if !queue::sound_queue(state.ready, state.queue, clock.queued) {
@@ -61,7 +70,7 @@ fn sound(settings: Settings, clock: Clock, state: StateRef<'_>) -> bool
     }
     let history = History {
         numbers: state.history,
-        window: settings.window.0,
+        window: settings.window,
         count: settings.count,
     };
     let most = units::twice(settings.tick);
