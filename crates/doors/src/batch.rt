@@ -24,9 +24,9 @@ pub fn run(
 {
     let seen = state.seen();
     let opened = Opened::read(settings, shares, clock);
-    opened.test(seen)?;
+    opened.test(&seen)?;
     let mut beside = opening::NOTHING;
-    opened.keep(seen, &mut beside);
+    opened.keep(&seen, &mut beside);
     let records = events.len().div_ceil(12).min(out.len() / 12);
     let after = batch::steps(
         opened.settings,

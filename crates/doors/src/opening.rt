@@ -63,8 +63,8 @@ impl Opened {
     }
 
     // Whether the state is refused. Refused are, in this order: settings outside their limits (8), a history too short (7), a state not sound (8).
-    pub fn test(&self, state: StateRef<'_>) -> Result<(), Refusal>
-        ensures { Tested self.now state.entry (outcome_of result) }
+    pub fn test(&self, state: &StateRef<'_>) -> Result<(), Refusal>
+        ensures { Tested self.now state.now (outcome_of result) }
     {
         sized(
             state.used,
@@ -77,15 +77,15 @@ impl Opened {
             state.slices,
             state.queue,
         );
-        soundness::refused_state(self.settings, self.clock, state)
+        soundness::refused_state(&self.settings, &self.clock, state)
     }
 
     // What is kept beside the state is made, where it lies.
-    pub fn keep(&self, state: StateRef<'_>, beside: &mut Beside)
-        requires { Room self.now.settings state.used.now (columns_seen state) state.queue.now × (refused_arrays self.now.settings state.used.now self.now.clock (columns_seen state) state.queue.now state.history.now ≡ 0) }
-        ensures { Begins self.now.settings self.now.clock state.entry beside.new }
+    pub fn keep(&self, state: &StateRef<'_>, beside: &mut Beside)
+        requires { Room self.now.settings state.now.used.now (columns_seen state.now) state.now.queue.now × (refused_arrays self.now.settings state.now.used.now self.now.clock (columns_seen state.now) state.now.queue.now state.now.history.now ≡ 0) }
+        ensures { Begins self.now.settings self.now.clock state.now beside.new }
     {
-        let queue = ReadyQueue::of(state, self.clock.queued, self.settings.core);
+        let queue = ReadyQueue::of(*state, self.clock.queued, self.settings.core);
         beside.cache.begin(self.settings, state.used, queue);
         beside.favoured = kept::favoured_in(state.partitions, self.clock.running);
     }

@@ -23,10 +23,14 @@ pub fn decision(
     ensures { line_of result ≡ Doors.decision (lent_seen settings.now shares.now clock.now state.entry) }
 {
     let opened = Opened::read(settings, shares, clock);
-    opened.test(state)?;
+    opened.test(&state)?;
     let mut beside = opening::NOTHING;
-    opened.keep(state, &mut beside);
-    Ok(beside.cache.choose(opened.settings, state.used, beside.favoured))
+    opened.keep(&state, &mut beside);
+    Ok(
+        beside
+            .cache
+            .choose(opened.settings, state.used, beside.favoured),
+    )
 }
 
 // The remaining door: what remains of the partition's budget, below zero after an overrun. It refuses what the decision door refuses, and
@@ -41,7 +45,7 @@ pub fn remaining(
     ensures { remainder_of result ≡ Doors.remainder (lent_seen settings.now shares.now clock.now state.entry) partition }
 {
     let opened = Opened::read(settings, shares, clock);
-    opened.test(state)?;
+    opened.test(&state)?;
     let settings = opened.settings;
     if settings.count <= partition {
         return Err(Refusal::Partition);

@@ -22,9 +22,9 @@ pub fn event(
 {
     let seen = state.seen();
     let opened = Opened::read(settings, shares, clock);
-    opened.test(seen)?;
+    opened.test(&seen)?;
     let mut beside = opening::NOTHING;
-    opened.keep(seen, &mut beside);
+    opened.keep(&seen, &mut beside);
     let stepped = scheduler::step(
         opened.settings,
         state,
