@@ -26,11 +26,8 @@ pub fn decision(
     opened.test(&state)?;
     let mut beside = opening::NOTHING;
     opened.keep(&state, &mut beside);
-    Ok(
-        beside
-            .cache
-            .choose(opened.settings, state.used, beside.favoured),
-    )
+    let settings = opened.settings;
+    Ok(beside.cache.choose(settings, state.used, beside.favoured))
 }
 
 // The remaining door: what remains of the partition's budget, below zero after an overrun. It refuses what the decision door refuses, and
