@@ -43,7 +43,7 @@ pub fn remaining(
 {
     let opened = Opened::read(settings, shares, clock);
     opened.test(&state)?;
-    let settings = opened.settings;
+    let settings = &opened.settings;
     if settings.count <= partition {
         return Err(Refusal::Partition);
     }
