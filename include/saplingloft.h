@@ -17,7 +17,7 @@
  * Both together can be written to a file and read back later. Beside them a file has to hold SAPLINGLOFT_VERSION and the state's size, because the
  * state itself tells neither; examples/embed.c shows it. Numbers lie in it as the processor has them, so a file is for processors of one byte order.
  *
- * Sizes: the state has 688 bytes, the history 4 * count * window, which is at most 25,600. Of code the archive for x86-64 has 26 KB, 10 KB of them for
+ * Sizes: the state has 688 bytes, the history 4 * count * window, which is at most 25,600. Of code the archive for x86-64 has 25 KB, 10 KB of them for
  * saplingloft_run alone, which a program that makes no runs does not link. A call there takes at most SAPLINGLOFT_STACK bytes of stack, as
  * tools/stack.c measures them; `make board` prints these figures for other processors.
  *
@@ -43,7 +43,7 @@ enum {
     SAPLINGLOFT_RECORD = 12,    /* bytes of a sheet's record, of an event's record and of a line */
     SAPLINGLOFT_SHEET = 252,    /* bytes of the longest sheet */
     SAPLINGLOFT_HISTORY = 6400, /* numbers of history that suffice for every sheet: 16 partitions, a window of 400 ticks */
-    SAPLINGLOFT_STACK = 1792,   /* bytes of stack that each call was seen to do with, on x86-64 */
+    SAPLINGLOFT_STACK = 1536,   /* bytes of stack that each call was seen to do with, on x86-64 */
     SAPLINGLOFT_SLICE = 4,      /* ticks of a round-robin thread's full slice */
     SAPLINGLOFT_IDLE = 255      /* the running thread where none runs */
 };

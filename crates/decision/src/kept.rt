@@ -30,29 +30,30 @@ pub struct Cache {
     pub sets: Sets,
 }
 
+// What is kept before anything was begun.
+pub const NOTHING: Cache = Cache {
+    budgets: [0; 16],
+    leads: [NOBODY; 16],
+    sets: Sets {
+        paying: 0,
+        competing: 0,
+        solvent: 0,
+    },
+};
+
 impl Cache {
-    // All of it, from a state: one pass over the queue, two over the partitions.
-    pub fn begin(settings: Settings, used: &[u32; 16], queue: ReadyQueue<'_>) -> Cache
+    // All of it, from a state: one pass over the queue, two over the partitions. It is made where it lies, as it is too large to be handed on.
+    pub fn begin(&mut self, settings: Settings, used: &[u32; 16], queue: ReadyQueue<'_>)
         requires { Limits settings × LinedOf queue }
-        ensures { HeldOf settings used.now queue.entry result }
+        ensures { HeldOf settings used.now queue.entry self.new }
     {
-        let mut cache = Cache {
-            budgets: [0; 16],
-            leads: [NOBODY; 16],
-            sets: Sets {
-                paying: 0,
-                competing: 0,
-                solvent: 0,
-            },
-        };
-        cache.sets.paying = solvency::price(&mut cache.budgets, settings);
-        cache.build(ReadyQueue {
+        self.sets.paying = solvency::price(&mut self.budgets, settings);
+        self.build(ReadyQueue {
             core: settings.core,
             ..queue
         });
         let need = units::need(settings.edition, settings.tick);
-        cache.sets.solvent = solvency::weigh_all(used, &cache.budgets, need, settings.count);
-        cache
+        self.sets.solvent = solvency::weigh_all(used, &self.budgets, need, settings.count);
     }
 
     // The decision, with the set of the favoured partition.

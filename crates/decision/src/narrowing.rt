@@ -64,21 +64,24 @@ struct Level<V> {
 }
 
 impl<V: Rank> Level<V> {
-    // After one more partition.
+    // After one more partition. The comparison stands in each test of it, for that compiles into two jumps; of a `match` on it the answer is made
+    // first and then tested.
     fn with(self, p: u8, value: V) -> Level<V>
         requires { p < 16 }
         ensures { OneMore V (V.against value self.value) self.value value self.kept p result.value result.kept }
     {
-        match value.compare(self.value) {
-            Comparison::Better => Level {
+        if let Comparison::Better = value.compare(self.value) {
+            Level {
                 kept: sets::only(p),
                 value,
-            },
-            Comparison::Worse => self,
-            Comparison::Equal => Level {
+            }
+        } else if let Comparison::Worse = value.compare(self.value) {
+            self
+        } else {
+            Level {
                 kept: sets::put(self.kept, p),
                 ..self
-            },
+            }
         }
     }
 }

@@ -7,7 +7,7 @@ use mathlib.Core.Bool.{false}
 use mathlib.Core.List.{List, ◌++◌}
 use lib.Dec.{eqb}
 use lib.ListN.{length, drop}
-use Rattle.std.specs.Prelude.{Result, Ok, Err}
+use Rattle.std.specs.Prelude.{Result, Ok, Err, ⊤}
 use Rattle.refusals.specs.Refusals.{number_of, outcome_of}
 use Rattle.refusals.specs.declared.Refusal.{Refusal}
 use Rattle.refusals.proofs.Laws.{never_zero}
@@ -15,7 +15,7 @@ use Rattle.lists.proofs.Tables.{table_length}
 use Rattle.lists.proofs.Tests.{clash}
 use Rattle.sheet.specs.declared.Settings.{Settings}
 use Rattle.model.specs.Answers.{Line, line_of, answer_line}
-use Rattle.model.specs.Arrays.{Columns, Sized, state_of}
+use Rattle.model.specs.Arrays.{Columns, columns_seen, state_of}
 use Rattle.model.specs.Doors.{answer_to, after_run, lines_after, taken_by}
 use Rattle.model.specs.Lent.{Lent, lent, lent_settings, lent_clock, words_of, saved_in, refused_arrays, refused_in}
 use Rattle.model.specs.Run.{run, after}
@@ -26,8 +26,9 @@ use Rattle.model.specs.declared.Decision.{Decision}
 use Rattle.decision.specs.declared.kept.Sets.{Sets}
 use Rattle.scheduler.specs.Stepping.{StepAnswered, Same, Still}
 use Rattle.scheduler.proofs.SchedulerLaws.{taken_arrays}
-use Rattle.doors.specs.Doors.{Sizes, Answered, Ran}
-use Rattle.doors.specs.Inner.{Room, OpenedFrom, opened_from}
+use Rattle.model.specs.declared.StateRef.{StateRef}
+use Rattle.doors.specs.Doors.{lent_seen, Sizes, Answered, Ran}
+use Rattle.doors.specs.Inner.{read_from, Tested, OpenedFrom, opened_from}
 use Rattle.doors.specs.declared.opening.Opened.{Opened}
 
 -- no refusal has the number 0
@@ -36,28 +37,12 @@ not_zero r z = let w : eqb 0 0 ≡ false = rw z at (never_zero r) in clash refl 
 
 -- ---- settings and clock were read from what is lent, and it was tested
 
-module _ (x : Lent) (c : Settings) (k : Clock) (ec : c ≡ lent_settings x) (ek : k ≡ lent_clock x) (sixteen : length x.used ≡ 16) (sizes : Sized x.threads) (full : length x.queue ≡ 64) where
-  number : (n : ℕ) → n ≡ refused_arrays c x.used k x.threads x.queue x.history → n ≡ refused_in x
-  number n f =
-      f ∙ ap (λ (a : Settings). refused_arrays a x.used k x.threads x.queue x.history) ec
-      ∙ ap (λ (j : Clock). refused_arrays (lent_settings x) x.used j x.threads x.queue x.history) ek
-
-  room : Room (lent_settings x) x.used x.threads x.queue
-  room = record { sixteen = sixteen; shares = table_length _ 16; sizes = sizes; full = full }
-
-  pub opened_no : (o : Result Opened Refusal) (r : Refusal) → o ≡ Err r → number_of r ≡ refused_arrays c x.used k x.threads x.queue x.history → OpenedFrom x o
-  opened_no o r e f = record {
-    refusal = ap outcome_of e ∙ number (number_of r) f;
-    opened = λ i g. let z : Err r ≡ Ok i = sym e ∙ g in cc;
-    room = room;
-  }
-
-  pub opened_yes : 0 ≡ refused_arrays c x.used k x.threads x.queue x.history → OpenedFrom x (Ok (record { settings = c; clock = k }))
-  opened_yes f = record {
-    refusal = number 0 f;
-    opened = λ i g. let z : i ≡ record { settings = c; clock = k } = cc in z ∙ (λ j. record { settings = ec j; clock = ek j });
-    room = room;
-  }
+pub opened_seen : (a b k : List ℕ) (s : StateRef) (i : Opened) (n : ℕ) → i ≡ read_from a b k → Tested i s n → OpenedFrom (lent_seen a b k s) i n
+opened_seen a b k s i n e t = record {
+  opened = e;
+  refusal = t.refusal ∙ ap (λ (j : Opened). refused_arrays j.settings s.used.now j.clock (columns_seen s) s.queue.now s.history.now) e;
+  room = record { sixteen = t.sixteen; shares = table_length _ 16; sizes = t.sizes; full = t.full };
+}
 
 module _ (x : Lent) where
   -- ---- the answers by the model's
@@ -72,18 +57,18 @@ module _ (x : Lent) where
 
   -- ---- what was opened
 
-  pub lengths : (o : Result Opened Refusal) → OpenedFrom x o → Sizes x
-  lengths o f = record { used = f.room.sixteen; queue = f.room.full }
+  pub lengths : {i : Opened} {n : ℕ} → OpenedFrom x i n → Sizes x
+  lengths f = record { used = f.room.sixteen; queue = f.room.full }
 
-  pub refused : (o : Result Opened Refusal) (r : Refusal) → OpenedFrom x o → o ≡ Err r → refused_in x ≡ number_of r
+  pub refused : {i : Opened} (o : Result ⊤ Refusal) (r : Refusal) → OpenedFrom x i (outcome_of o) → o ≡ Err r → refused_in x ≡ number_of r
   refused o r f e = sym f.refusal ∙ ap outcome_of e
 
-  pub taken : (o : Result Opened Refusal) (i : Opened) → OpenedFrom x o → o ≡ Ok i → refused_in x ≡ 0
-  taken o i f e = sym f.refusal ∙ ap outcome_of e
+  pub taken : {i : Opened} (o : Result ⊤ Refusal) {t : ⊤} → OpenedFrom x i (outcome_of o) → o ≡ Ok t → refused_in x ≡ 0
+  taken o f e = sym f.refusal ∙ ap outcome_of e
 
   -- ---- what is refused
 
-  pub answered_no : (o : Result Opened Refusal) (r : Refusal) → OpenedFrom x o → o ≡ Err r → (b : List ℕ) → Answered x b (line_of (Err r)) x
+  pub answered_no : {i : Opened} (o : Result ⊤ Refusal) (r : Refusal) → OpenedFrom x i (outcome_of o) → o ≡ Err r → (b : List ℕ) → Answered x b (line_of (Err r)) x
   answered_no o r f e b =
       let z = refused o r f e in
       record {
@@ -91,10 +76,10 @@ module _ (x : Lent) where
         after = sym (ap (λ (y : Answer). y.after) (answer_no b r z));
         taken = λ w. w;
         still = λ _. refl;
-        sizes = lengths o f;
+        sizes = lengths f;
       }
 
-  pub ran_no : (o : Result Opened Refusal) (r : Refusal) → OpenedFrom x o → o ≡ Err r → (events lines : List ℕ) → Ran x events lines (number_of r) x lines
+  pub ran_no : {i : Opened} (o : Result ⊤ Refusal) (r : Refusal) → OpenedFrom x i (outcome_of o) → o ≡ Err r → (events lines : List ℕ) → Ran x events lines (number_of r) x lines
   unfolding after_run lines_after
   ran_no o r f e events lines =
       let z = refused o r f e in
@@ -104,12 +89,12 @@ module _ (x : Lent) where
         written = rw (z, never_zero r);
         taken = λ w. w;
         still = λ _. refl;
-        sizes = lengths o f;
+        sizes = lengths f;
       }
 
   -- ---- what is not refused: u' to h' are left, and the clock k'
 
-  module _ (o : Result Opened Refusal) (i : Opened) (f : OpenedFrom x o) (e : o ≡ Ok i) (u' : List ℕ) (k' : Clock) (ts' : Columns) (q' h' : List ℕ) where
+  module _ (o : Result ⊤ Refusal) (i : Opened) (f : OpenedFrom x i (outcome_of o)) {t : ⊤} (e : o ≡ Ok t) (u' : List ℕ) (k' : Clock) (ts' : Columns) (q' h' : List ℕ) where
     abbrev before : Opened → Saved
     before j = saved (state_of j.settings x.used j.clock x.threads x.queue) x.history
 
@@ -118,10 +103,10 @@ module _ (x : Lent) where
     left k = lent x.settings x.shares u' k ts' q' h'
 
     is_read : i ≡ opened_from x
-    is_read = f.opened i e
+    is_read = f.opened
 
     fine : refused_in x ≡ 0
-    fine = taken o i f e
+    fine = taken o f e
 
     -- ---- the event door
 
@@ -148,7 +133,7 @@ module _ (x : Lent) where
         after = ap (λ (n : List ℕ). saved_in (left n)) is ∙ after_it;
         taken = λ _. ap (λ (n : List ℕ). refused_in (left n)) is ∙ sound_after;
         still = λ n. absurd (n (sym (ap (λ (l : Line). l.refusal) line) ∙ ap (λ (v : Result Decision Refusal). (line_of v).refusal) g));
-        sizes = lengths o f;
+        sizes = lengths f;
       }
 
       -- the event was refused
@@ -158,7 +143,7 @@ module _ (x : Lent) where
         after = ap (λ (j : Clock). saved (state_of (lent_settings x) u' j ts' q') h') (sym same.clock) ∙ after_it;
         taken = λ _. ap (λ (j : Clock). refused_arrays (lent_settings x) u' j ts' q' h') (sym same.clock) ∙ sound_after;
         still = λ _. λ j. lent x.settings x.shares (same.totals j) x.clock (same.threads j) (same.queue j) (same.history j);
-        sizes = lengths o f;
+        sizes = lengths f;
       }
         where
           number : (answer (saved_in x) b).refusal ≡ number_of r
@@ -187,7 +172,7 @@ module _ (x : Lent) where
           written = rw (fine, ← g) l';
           taken = λ _. ap (λ (w : List ℕ). refused_in (left w)) is ∙ subst (λ (j : Opened). refused_arrays j.settings u' k' ts' q' h' ≡ 0) is_read t;
           still = λ j. absurd (j fine);
-          sizes = lengths o f;
+          sizes = lengths f;
         }
 
 -- the same answer, told otherwise

@@ -1,10 +1,8 @@
 -- What the inner functions of the doors are held to: settings and clock by value, the arrays lent.
-use Rattle.std.specs.Prelude.{◌≡◌, true, ℕ, List, length, Result, Ok}
-use Rattle.refusals.specs.Refusals.{outcome_of}
-use Rattle.refusals.specs.declared.Refusal.{Refusal}
+use Rattle.std.specs.Prelude.{◌≡◌, true, ℕ, List, length}
 use Rattle.sheet.specs.declared.Settings.{Settings}
 use Rattle.model.specs.Arrays.{Columns, columns_seen, Sized, flags_fit}
-use Rattle.model.specs.Lent.{Lent, lent_settings, lent_clock, saved_in, refused_in}
+use Rattle.model.specs.Lent.{Lent, lent_settings, settings_from, clock_from, refused_arrays, refused_in, saved_in}
 use Rattle.model.specs.Run.{fresh}
 use Rattle.model.specs.declared.Clock.{Clock}
 use Rattle.model.specs.declared.StateRef.{StateRef}
@@ -20,15 +18,25 @@ pub record Room (c : Settings) (u : List ℕ) (ts : Columns) (q : List ℕ) : Ty
   pub sizes : Sized ts
   pub full : length q ≡ 64
 
--- the settings and the clock of what is lent
-abbrev pub opened_from : Lent → Opened
-opened_from x = record { settings = lent_settings x; clock = lent_clock x }
+-- the settings and the clock that lent words say
+abbrev pub read_from : List ℕ → List ℕ → List ℕ → Opened
+read_from numbers shares clock = record { settings = settings_from numbers shares; clock = clock_from clock }
 
--- they were read, unless what is lent is refused; and every array has its length
-pub record OpenedFrom (x : Lent) (r : Result Opened Refusal) : Type 0 where
-  pub refusal : outcome_of r ≡ refused_in x
-  pub opened : (o : Opened) → r ≡ Ok o → o ≡ opened_from x
+-- they are the settings and the clock of what is lent, and the number is what it is refused by; every array has its length
+abbrev pub opened_from : Lent → Opened
+opened_from x = read_from x.settings x.shares x.clock
+
+pub record OpenedFrom (x : Lent) (o : Opened) (number : ℕ) : Type 0 where
+  pub opened : o ≡ opened_from x
+  pub refusal : number ≡ refused_in x
   pub room : Room (lent_settings x) x.used x.threads x.queue
+
+-- the number that a state with these settings and this clock was tested to have; and every array has its length
+pub record Tested (o : Opened) (s : StateRef) (number : ℕ) : Type 0 where
+  pub refusal : number ≡ refused_arrays o.settings s.used.now o.clock (columns_seen s) s.queue.now s.history.now
+  pub sixteen : length s.used.now ≡ 16
+  pub sizes : Sized (columns_seen s)
+  pub full : length s.queue.now ≡ 64
 
 -- what is kept beside a state, and the favoured partition, are right
 pub record Begins (c : Settings) (k : Clock) (x : StateRef) (b : Beside) : Type 0 where

@@ -4,6 +4,7 @@ ghost use Rattle.refusals.specs.Refusals.{outcome_of};
 ghost use Rattle.doors.specs.Doors.{lent_in, Ran};
 
 use crate::opening;
+use crate::opening::Opened;
 use model::StateMut;
 use refusals::Refusal;
 use scheduler::batch;
@@ -22,8 +23,10 @@ pub fn run(
     ensures loan { SameLoan state.old state.new }
 {
     let seen = state.seen();
-    let opened = opening::open(settings, shares, clock, seen)?;
-    let mut beside = opened.beside(seen);
+    let opened = Opened::read(settings, shares, clock);
+    opened.test(&seen)?;
+    let mut beside = opening::NOTHING;
+    opened.keep(&seen, &mut beside);
     let records = events.len().div_ceil(12).min(out.len() / 12);
     let after = batch::steps(
         opened.settings,

@@ -3,8 +3,8 @@
 ghost use Rattle.std.specs.Prelude.{◌≡◌, length};
 ghost use Rattle.model.specs.Arrays.{columns, columns_seen, Sized};
 ghost use Rattle.model.specs.Lent.{refused_arrays};
-ghost use Rattle.doors.specs.Doors.{lent_seen};
-ghost use Rattle.doors.specs.Inner.{OpenedFrom, Begins, Room};
+ghost use Rattle.refusals.specs.Refusals.{outcome_of};
+ghost use Rattle.doors.specs.Inner.{read_from, Tested, Begins, Room};
 
 use crate::words;
 use decision::kept;
@@ -14,7 +14,7 @@ use model::{Clock, StateRef};
 use refusals::Refusal;
 use sheet::Settings;
 
-// Settings and clock of a state that is not refused.
+// Settings and clock of a given state.
 #[derive(Clone, Copy)]
 pub struct Opened {
     pub settings: Settings,
@@ -27,6 +27,12 @@ pub struct Beside {
     pub cache: Cache,
     pub favoured: u16,
 }
+
+// What is kept before anything was begun.
+pub const NOTHING: Beside = Beside {
+    cache: kept::NOTHING,
+    favoured: 0,
+};
 
 // The lengths of what is lent, which the types of the references to it tell.
 fn sized(
@@ -45,42 +51,42 @@ fn sized(
     ensures queue { length queue.now ≡ 64 }
 {}
 
-// Refused are, in this order: settings outside their limits (8), a history too short (7), a state not sound (8).
-pub fn open(
-    settings: &[u32; 7],
-    shares: &[u32; 16],
-    clock: &[u32; 5],
-    state: StateRef<'_>,
-) -> Result<Opened, Refusal>
-    ensures { OpenedFrom (lent_seen settings.now shares.now clock.now state.entry) result }
-{
-    let settings = words::settings_in(settings, shares);
-    let clock = Clock::from(clock);
-    sized(
-        state.used,
-        state.exists,
-        state.ready,
-        state.partitions,
-        state.priorities,
-        state.masks,
-        state.policies,
-        state.slices,
-        state.queue,
-    );
-    soundness::refused_state(settings, clock, state)?;
-    Ok(Opened { settings, clock })
-}
-
 impl Opened {
-    // What is kept beside the state is made.
-    pub fn beside(&self, state: StateRef<'_>) -> Beside
-        requires { Room self.now.settings state.used.now (columns_seen state) state.queue.now × (refused_arrays self.now.settings state.used.now self.now.clock (columns_seen state) state.queue.now state.history.now ≡ 0) }
-        ensures { Begins self.now.settings self.now.clock state.entry result }
+    // They are read as they are lent, whatever they say.
+    pub fn read(settings: &[u32; 7], shares: &[u32; 16], clock: &[u32; 5]) -> Opened
+        ensures { result ≡ read_from settings.now shares.now clock.now }
     {
-        let queue = ReadyQueue::of(state, self.clock.queued, self.settings.core);
-        Beside {
-            cache: Cache::begin(self.settings, state.used, queue),
-            favoured: kept::favoured_in(state.partitions, self.clock.running),
+        Opened {
+            settings: words::settings_in(settings, shares),
+            clock: Clock::from(clock),
         }
+    }
+
+    // Whether the state is refused. Refused are, in this order: settings outside their limits (8), a history too short (7), a state not sound (8).
+    pub fn test(&self, state: &StateRef<'_>) -> Result<(), Refusal>
+        ensures { Tested self.now state.now (outcome_of result) }
+    {
+        sized(
+            state.used,
+            state.exists,
+            state.ready,
+            state.partitions,
+            state.priorities,
+            state.masks,
+            state.policies,
+            state.slices,
+            state.queue,
+        );
+        soundness::refused_state(&self.settings, &self.clock, state)
+    }
+
+    // What is kept beside the state is made, where it lies.
+    pub fn keep(&self, state: &StateRef<'_>, beside: &mut Beside)
+        requires { Room self.now.settings state.now.used.now (columns_seen state.now) state.now.queue.now × (refused_arrays self.now.settings state.now.used.now self.now.clock (columns_seen state.now) state.now.queue.now state.now.history.now ≡ 0) }
+        ensures { Begins self.now.settings self.now.clock state.now beside.new }
+    {
+        let queue = ReadyQueue::of(*state, self.clock.queued, self.settings.core);
+        beside.cache.begin(self.settings, state.used, queue);
+        beside.favoured = kept::favoured_in(state.partitions, self.clock.running);
     }
 }

@@ -6,7 +6,7 @@ ghost use Rattle.model.specs.Doors as Doors;
 ghost use Rattle.doors.specs.Doors.{lent_seen};
 
 use crate::opening;
-use crate::opening::Beside;
+use crate::opening::Opened;
 use model::{Decision, StateRef};
 use refusals::Refusal;
 use units::Cycles;
@@ -22,9 +22,12 @@ pub fn decision(
 ) -> Result<Decision, Refusal>
     ensures { line_of result ≡ Doors.decision (lent_seen settings.now shares.now clock.now state.entry) }
 {
-    let opened = opening::open(settings, shares, clock, state)?;
-    let Beside { cache, favoured } = opened.beside(state);
-    Ok(cache.choose(opened.settings, state.used, favoured))
+    let opened = Opened::read(settings, shares, clock);
+    opened.test(&state)?;
+    let mut beside = opening::NOTHING;
+    opened.keep(&state, &mut beside);
+    let settings = opened.settings;
+    Ok(beside.cache.choose(settings, state.used, beside.favoured))
 }
 
 // The remaining door: what remains of the partition's budget, below zero after an overrun. It refuses what the decision door refuses, and
@@ -38,7 +41,9 @@ pub fn remaining(
 ) -> Result<i64, Refusal>
     ensures { remainder_of result ≡ Doors.remainder (lent_seen settings.now shares.now clock.now state.entry) partition }
 {
-    let settings = opening::open(settings, shares, clock, state)?.settings;
+    let opened = Opened::read(settings, shares, clock);
+    opened.test(&state)?;
+    let settings = &opened.settings;
     if settings.count <= partition {
         return Err(Refusal::Partition);
     }

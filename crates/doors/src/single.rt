@@ -4,6 +4,7 @@ ghost use Rattle.model.specs.Arrays.{SameLoan};
 ghost use Rattle.doors.specs.Doors.{lent_in, Answered};
 
 use crate::opening;
+use crate::opening::Opened;
 use model::{Decision, StateMut};
 use refusals::Refusal;
 
@@ -20,8 +21,10 @@ pub fn event(
     ensures loan { SameLoan state.old state.new }
 {
     let seen = state.seen();
-    let opened = opening::open(settings, shares, clock, seen)?;
-    let mut beside = opened.beside(seen);
+    let opened = Opened::read(settings, shares, clock);
+    opened.test(&seen)?;
+    let mut beside = opening::NOTHING;
+    opened.keep(&seen, &mut beside);
     let stepped = scheduler::step(
         opened.settings,
         state,

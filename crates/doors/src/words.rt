@@ -3,6 +3,7 @@ ghost use Rattle.std.specs.Prelude.{◌≡◌, length};
 ghost use Rattle.model.specs.Lent.{flag_from, shares_from, settings_from};
 
 use sheet::Settings;
+use std::array;
 use units::{Cycles, Percent, Ticks};
 
 // The flag that tells whether E is stated, in a lent word: a byte, and the three others, which are reserved, are 0. A word with another one is not
@@ -26,7 +27,7 @@ pub fn settings_in(numbers: &[u32; 7], shares: &[u32; 16]) -> Settings
         edition: numbers[4],
         stated: flag_in(numbers[5]),
         count: numbers[6],
-        shares: shares.map(Percent),
+        shares: array::from_fn(|p| Percent(shares[p])),
     }
 }
 
@@ -43,5 +44,5 @@ pub fn keep_settings(numbers: &mut [u32; 7], shares: &mut [u32; 16], s: Settings
         s.stated as u32,
         s.count,
     ];
-    *shares = s.shares.map(|share| share.0);
+    *shares = array::from_fn(|p| s.shares[p].0);
 }

@@ -5,6 +5,7 @@ pub mod numbers;
 
 ghost use Rattle.std.specs.Prelude.{◌≡◌, ◌+◌, ◌%◌, length};
 ghost use Rattle.model.specs.Answers.{line_of, text_of};
+ghost use Rattle.lines.specs.Numbers.{numbers_of};
 
 use model::Decision;
 use numbers::Numbers;
@@ -17,14 +18,13 @@ fn digit(n: u8) -> u8
     b'0' + n % 10
 }
 
-// The line of an answer, into twelve lent bytes: refusal in two digits, mode, partition in two digits, thread in three. Each byte is written where it
-// lies: a line that is made first and then copied takes twice as long.
+// The line that the numbers are, into twelve lent bytes. Each byte is written where it lies: a line that is made first and then copied takes twice as
+// long.
 #[tactic(auto, unfolding(model::specs::Answers::text_of, sheet::specs::Records::digits_of))]
-pub fn write(out: &mut [u8], verdict: Result<Decision, Refusal>)
+fn put(out: &mut [u8], n: Numbers)
     requires { length out.old ≡ 12 }
-    ensures { out.new ≡ text_of (line_of verdict) }
+    ensures { out.new ≡ text_of (numbers_of n) }
 {
-    let n = Numbers::from(verdict);
     out[0] = digit(n.refusal / 10);
     out[1] = digit(n.refusal);
     out[2] = b' ';
@@ -37,6 +37,18 @@ pub fn write(out: &mut [u8], verdict: Result<Decision, Refusal>)
     out[9] = digit(n.thread / 10);
     out[10] = digit(n.thread);
     out[11] = b'\n';
+}
+
+// The line of an answer, into twelve lent bytes: refusal in two digits, mode, partition in two digits, thread in three. A decision and a refusal are
+// put apart: of what is 0 in the one or the other no digit is worked out.
+pub fn write(out: &mut [u8], verdict: Result<Decision, Refusal>)
+    requires { length out.old ≡ 12 }
+    ensures { out.new ≡ text_of (line_of verdict) }
+{
+    match verdict {
+        Ok(d) => put(out, Numbers::from(Ok(d))),
+        Err(refusal) => put(out, Numbers::from(Err(refusal))),
+    }
 }
 
 // The line of an answer.

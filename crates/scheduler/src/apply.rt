@@ -105,7 +105,18 @@ fn work(
         event.stamp,
     );
     cache.sets.solvent = paid.solvent;
-    let queued = actions::act(state, clock.queued, event);
+    let queued = actions::act(
+        state.exists,
+        state.ready,
+        state.partitions,
+        state.priorities,
+        state.masks,
+        state.policies,
+        state.slices,
+        state.queue,
+        clock.queued,
+        event,
+    );
     let seen = state.seen();
     cache.follow(
         seen.ready,

@@ -7,7 +7,7 @@ use Rattle.soundness.specs.declared.sums.History.{History}
 use Rattle.soundness.specs.Sums.{slot_in, all_narrow, part_in, Added, Rows}
 use Rattle.soundness.proofs.Passes.{added_both}
 
-pub rows_in : (x : History) → Rows x.numbers.now x.window x.count
+pub rows_in : (x : History) → Rows x.numbers.now x.window.0 x.count
 rows_in x = record { few = x.few; short = x.short; inside = x.inside }
 
 pub narrow_at : (l : List ℕ) → all_narrow l ≡ true → (i : ℕ) → i < length l → get_or l i 0 < 4194304

@@ -26,8 +26,8 @@ fn past(p: u32, count: u32, number: u32) -> u32
 }
 
 // "shares and totals past the last partition all zero"
-fn rest_zero(settings: Settings, used: &[u32; 16]) -> bool
-    ensures { result ≡ rest_zero settings used.now }
+fn rest_zero(settings: &Settings, used: &[u32; 16]) -> bool
+    ensures { result ≡ rest_zero settings.now used.now }
 {
     let mut bits: u32 = 0;
     for p in 0..16u32 {
@@ -49,11 +49,20 @@ fn running_fits(ready: &[u8; 64], masks: &[u8; 64], running: u32, core: u32) -> 
 
 // Every flag is 0 or 1 and the state is sound, if its settings are within the limits and the history has room for its rows. The shortest
 // tests come first.
-fn sound(settings: Settings, clock: Clock, state: StateRef<'_>) -> bool
-    requires { (within_limits settings ≡ true) × (settings.count * W settings ≤ length state.history.now) }
-    ensures { result ≡ sound_in settings state.entry.used.now clock (columns_seen state.entry) state.entry.queue.now state.entry.history.now }
+fn sound(settings: &Settings, clock: &Clock, state: &StateRef<'_>) -> bool
+    requires { (within_limits settings.now ≡ true) × (settings.now.count * W settings.now ≤ length state.now.history.now) }
+    ensures { result ≡ sound_in settings.now state.now.used.now clock.now (columns_seen state.now) state.now.queue.now state.now.history.now }
 {
-    if !records::sound_threads(state, settings.count as u8) {
+    if !records::sound_threads(
+        state.exists,
+        state.ready,
+        state.partitions,
+        state.priorities,
+        state.masks,
+        state.policies,
+        state.slices,
+        settings.count as u8,
+    ) {
         return false;
     }
     if !queue::sound_queue(state.ready, state.queue, clock.queued) {
@@ -61,7 +70,7 @@ fn sound(settings: Settings, clock: Clock, state: StateRef<'_>) -> bool
     }
     let history = History {
         numbers: state.history,
-        window: settings.window.0,
+        window: settings.window,
         count: settings.count,
     };
     let most = units::twice(settings.tick);
@@ -72,11 +81,16 @@ fn sound(settings: Settings, clock: Clock, state: StateRef<'_>) -> bool
 }
 
 // What every door that is lent a state refuses before all else: 8 for settings outside their limits, because the length wanted is worked
-// out from them; 7 for a history too short; 8 for a flag above 1 or a state not sound.
-pub fn refused_state(settings: Settings, clock: Clock, state: StateRef<'_>) -> Result<(), Refusal>
-    ensures { outcome_of result ≡ refused_arrays settings state.entry.used.now clock (columns_seen state.entry) state.entry.queue.now state.entry.history.now }
+// out from them; 7 for a history too short; 8 for a flag above 1 or a state not sound. All three are lent: a copy of them would be made on the
+// stack, and on a processor that loads no word from an odd address byte by byte.
+pub fn refused_state(
+    settings: &Settings,
+    clock: &Clock,
+    state: &StateRef<'_>,
+) -> Result<(), Refusal>
+    ensures { outcome_of result ≡ refused_arrays settings.now state.now.used.now clock.now (columns_seen state.now) state.now.queue.now state.now.history.now }
 {
-    if sheet::limits(settings).is_err() {
+    if sheet::limits(*settings).is_err() {
         return Err(Refusal::Unsound);
     }
     let wanted = (settings.count as usize) * (settings.window.0 as usize);

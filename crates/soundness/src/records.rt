@@ -1,9 +1,7 @@
 // The threads' records, which seven lent arrays hold: whether each is sound.
 ghost use Rattle.std.specs.Prelude.{◌≡◌, ◌≤◌};
-ghost use Rattle.model.specs.Arrays.{columns_seen};
+ghost use Rattle.model.specs.Arrays.{columns};
 ghost use Rattle.soundness.specs.Records.{sound_records, OfAbsent, OfExisting, WrongFlag, WrongSlice, WrongTurn};
-
-use model::StateRef;
 
 // A byte of a thread that does not exist, and 0 of one that does. The flag less 1 is 255 or 0.
 #[tactic(auto, using(crate::proofs::Clauses::of_absent))]
@@ -50,22 +48,31 @@ fn wrong_turn(exists: u8, policy: u8, slice: u8) -> u8
 // all zero", and each flag and each policy 0 or 1. One pass without branches, on bytes alone, so that it can be done for several threads at a
 // time: what is tested of all threads is joined in three bytes. A flag or a policy above 1 makes nothing of the others certain, but it shows by
 // itself.
-pub fn sound_threads(state: StateRef<'_>, count: u8) -> bool
+pub fn sound_threads(
+    exists: &[u8; 64],
+    ready: &[u8; 64],
+    partitions: &[u8; 64],
+    priorities: &[u8; 64],
+    masks: &[u8; 64],
+    policies: &[u8; 64],
+    slices: &[u8; 64],
+    count: u8,
+) -> bool
     requires { 1 ≤ count }
-    ensures { result ≡ sound_records count (columns_seen state.entry) }
+    ensures { result ≡ sound_records count (columns exists.now ready.now partitions.now priorities.now masks.now policies.now slices.now) }
 {
     let mut rest: u8 = 0;
     let mut least: u8 = 255;
     let mut most: u8 = 0;
     for t in 0..64u32 {
         let at = t as usize;
-        let e = state.exists[at];
-        let r = state.ready[at];
-        let p = state.partitions[at];
-        let n = state.priorities[at];
-        let m = state.masks[at];
-        let o = state.policies[at];
-        let l = state.slices[at];
+        let e = exists[at];
+        let r = ready[at];
+        let p = partitions[at];
+        let n = priorities[at];
+        let m = masks[at];
+        let o = policies[at];
+        let l = slices[at];
         let wrong = of_absent(e, r | p | n | m) | wrong_turn(e, o, l);
         rest |= wrong_flag(e | r | o) | wrong;
         least = of_existing(e, m).min(least);

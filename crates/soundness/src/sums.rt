@@ -11,11 +11,11 @@ use units::{Cycles, Ticks};
 #[derive(Clone, Copy)]
 pub struct History<'a> {
     pub numbers: &'a [u32],
-    pub window: u32,
+    pub window: Ticks,
     pub count: u32,
     pub ghost few: { count ≤ 16 },
-    pub ghost short: { window ≤ 400 },
-    pub ghost inside: { count * window ≤ length numbers.now },
+    pub ghost short: { window.0 ≤ 400 },
+    pub ghost inside: { count * window.0 ≤ length numbers.now },
 }
 
 // A part of a row is added up, and each of its numbers to its slot's sum. The answer is the part's sum if every number is below 2^22, which is
@@ -53,17 +53,17 @@ fn slots_within(sums: &[u32; 100], size: u32, most: Cycles) -> bool
 impl<'a> History<'a> {
     // What a row holds in `size` slots, from slot `from` on.
     fn part(self, p: u32, from: u32, size: u32) -> &'a [u32]
-        requires { (p < self.count) × (from + size ≤ self.window) }
-        ensures { result.now ≡ part_in self.entry.numbers.now self.entry.window from size p }
+        requires { (p < self.count) × (from + size ≤ self.window.0) }
+        ensures { result.now ≡ part_in self.entry.numbers.now self.entry.window.0 from size p }
     {
-        let start = (p * self.window + from) as usize;
+        let start = (p * self.window.0 + from) as usize;
         &self.numbers[start..start + size as usize]
     }
 
     // The parts of all rows are added to the rows' sums and to the slots', as long as all their numbers are below 2^22, which is the answer.
     fn add_rows(self, from: u32, size: u32, rows: &mut [u32; 16], sums: &mut [u32; 100]) -> bool
-        requires { Block self.window from size × (sums.old ≡ replicate 100 0) }
-        ensures { BlockAdded self.entry.numbers.now self.entry.window self.entry.count from size rows.old sums.old result rows.new sums.new }
+        requires { Block self.window.0 from size × (sums.old ≡ replicate 100 0) }
+        ensures { BlockAdded self.entry.numbers.now self.entry.window.0 self.entry.count from size rows.old sums.old result rows.new sums.new }
     {
         for p in 0..self.count {
             let Some(sum) = add_row(self.part(p, from, size), sums) else {
@@ -77,9 +77,9 @@ impl<'a> History<'a> {
 
     // "each slot's sum over partitions at most 2 × C", of a block of slots. If so, the rows' sums go on.
     fn block_within(self, from: u32, size: u32, most: Cycles, rows: &mut [u32; 16]) -> bool
-        requires { Block self.window from size × (most.0 < 4194304) }
-        ensures within { result ≡ all (λ i. nat_le (slot_in self.entry.numbers.now self.entry.window self.entry.count (from + i)) most.0) (below size) }
-        ensures rows { result ≡ true → RowsAdded self.entry.numbers.now self.entry.window self.entry.count from size rows.old rows.new }
+        requires { Block self.window.0 from size × (most.0 < 4194304) }
+        ensures within { result ≡ all (λ i. nat_le (slot_in self.entry.numbers.now self.entry.window.0 self.entry.count (from + i)) most.0) (below size) }
+        ensures rows { result ≡ true → RowsAdded self.entry.numbers.now self.entry.window.0 self.entry.count from size rows.old rows.new }
     {
         let mut sums = [0u32; 100];
         let narrow = self.add_rows(from, size, rows, &mut sums);
@@ -88,12 +88,12 @@ impl<'a> History<'a> {
 
     // What the rows hold in one slot.
     fn slot_sum(self, slot: u32) -> u32
-        requires { slot < self.window }
-        ensures { result ≡ slot_in self.entry.numbers.now self.entry.window self.entry.count slot % 2 ^ 32 }
+        requires { slot < self.window.0 }
+        ensures { result ≡ slot_in self.entry.numbers.now self.entry.window.0 self.entry.count slot % 2 ^ 32 }
     {
         let mut sum: u32 = 0;
         for p in 0..self.count {
-            sum = sum.wrapping_add(self.numbers[(p * self.window + slot) as usize]);
+            sum = sum.wrapping_add(self.numbers[(p * self.window.0 + slot) as usize]);
         }
         sum
     }
@@ -101,14 +101,14 @@ impl<'a> History<'a> {
     // The current slot, the totals and the slots' sums agree with the history. `most` is what a slot may hold, `current` what the current one may.
     pub fn books_agree(self, totals: &[u32; 16], slot: Ticks, most: Cycles, current: Cycles) -> bool
         requires { most.0 < 4194304 }
-        ensures { result ≡ books_agree self.entry.numbers.now totals.now self.entry.window self.entry.count slot.0 most.0 current.0 }
+        ensures { result ≡ books_agree self.entry.numbers.now totals.now self.entry.window.0 self.entry.count slot.0 most.0 current.0 }
     {
-        if self.window <= slot.0 {
+        if self.window.0 <= slot.0 {
             return false;
         }
         let mut rows = [0u32; 16];
-        for from in (0..self.window).step_by(100) {
-            let size = (self.window - from).min(100);
+        for from in (0..self.window.0).step_by(100) {
+            let size = (self.window.0 - from).min(100);
             if !self.block_within(from, size, most, &mut rows) {
                 return false;
             }

@@ -1,10 +1,11 @@
-// What each kind of event does to the threads and the ready queue, in the arrays that the caller lends.
+// What each kind of event does to the threads and the ready queue, in the arrays that the caller lends. Each function is lent the arrays that
+// it reads or changes, and no other.
 ghost use Rattle.std.specs.Prelude.{◌≡◌, true, ◌++◌, ◌∷◌, [], ◌<◌, ◌≤◌, eqb, take, set, get_or};
 ghost use Rattle.lists.specs.Lists.{member, distinct};
 ghost use Rattle.model.specs.State.{absent};
 ghost use Rattle.model.specs.Slices.{slice_for};
 ghost use Rattle.model.specs.Step.{created, leaves, requeued};
-ghost use Rattle.model.specs.Arrays.{columns_in, tables_in, Regular, SameLoan};
+ghost use Rattle.model.specs.Arrays.{columns, tables_in, Regular};
 ghost use Rattle.threads.specs.Entries.{QueueStored, queue_in, queue_from};
 ghost use Rattle.event.specs.Bytes.{bytes_of};
 ghost use Rattle.threads.specs.Able.{Able, Acted};
@@ -13,7 +14,6 @@ ghost use Rattle.threads.specs.Records.{thread_of, ThreadStored};
 use crate::{queue, tasks};
 use event::Event;
 use event::kinds::Action;
-use model::StateMut;
 use std::cmp::Ordering;
 
 // A thread's record, which stands in its place of the seven arrays.
@@ -40,24 +40,49 @@ const ABSENT: Thread = Thread {
 };
 
 // The record is stored.
-fn store(state: &mut StateMut<'_>, t: u8, thread: Thread)
-    requires { (t < 64) × Regular (columns_in state.old) }
-    ensures { ThreadStored state.old state.new t (thread_of thread) }
+fn store(
+    exists: &mut [u8; 64],
+    ready: &mut [u8; 64],
+    partitions: &mut [u8; 64],
+    priorities: &mut [u8; 64],
+    masks: &mut [u8; 64],
+    policies: &mut [u8; 64],
+    slices: &mut [u8; 64],
+    t: u8,
+    thread: Thread,
+)
+    requires { (t < 64) × Regular (columns exists.old ready.old partitions.old priorities.old masks.old policies.old slices.old) }
+    ensures { ThreadStored
+        (columns exists.old ready.old partitions.old priorities.old masks.old policies.old slices.old)
+        (columns exists.new ready.new partitions.new priorities.new masks.new policies.new slices.new)
+        t (thread_of thread) }
 {
     let at = t as usize;
-    state.exists[at] = u8::from(thread.exists);
-    state.ready[at] = u8::from(thread.ready);
-    state.partitions[at] = thread.partition;
-    state.priorities[at] = thread.priority;
-    state.masks[at] = thread.mask;
-    state.policies[at] = thread.policy;
-    state.slices[at] = thread.slice;
+    exists[at] = u8::from(thread.exists);
+    ready[at] = u8::from(thread.ready);
+    partitions[at] = thread.partition;
+    priorities[at] = thread.priority;
+    masks[at] = thread.mask;
+    policies[at] = thread.policy;
+    slices[at] = thread.slice;
 }
 
 // A new thread as the event says it, not ready, with a full slice.
-fn create(state: &mut StateMut<'_>, event: Event)
-    requires { (event.thread < 64) × Regular (columns_in state.old) }
-    ensures { ThreadStored state.old state.new event.thread (created event.partition event.priority event.mask event.policy) }
+fn create(
+    exists: &mut [u8; 64],
+    ready: &mut [u8; 64],
+    partitions: &mut [u8; 64],
+    priorities: &mut [u8; 64],
+    masks: &mut [u8; 64],
+    policies: &mut [u8; 64],
+    slices: &mut [u8; 64],
+    event: Event,
+)
+    requires { (event.thread < 64) × Regular (columns exists.old ready.old partitions.old priorities.old masks.old policies.old slices.old) }
+    ensures { ThreadStored
+        (columns exists.old ready.old partitions.old priorities.old masks.old policies.old slices.old)
+        (columns exists.new ready.new partitions.new priorities.new masks.new policies.new slices.new)
+        event.thread (created event.partition event.priority event.mask event.policy) }
 {
     let thread = Thread {
         exists: true,
@@ -68,15 +93,39 @@ fn create(state: &mut StateMut<'_>, event: Event)
         slice: tasks::slice_for(event.policy),
         ..ABSENT
     };
-    store(state, event.thread, thread);
+    store(
+        exists,
+        ready,
+        partitions,
+        priorities,
+        masks,
+        policies,
+        slices,
+        event.thread,
+        thread,
+    );
 }
 
 // The thread's number is free again.
-fn forget(state: &mut StateMut<'_>, t: u8)
-    requires { (t < 64) × Regular (columns_in state.old) }
-    ensures { ThreadStored state.old state.new t absent }
+fn forget(
+    exists: &mut [u8; 64],
+    ready: &mut [u8; 64],
+    partitions: &mut [u8; 64],
+    priorities: &mut [u8; 64],
+    masks: &mut [u8; 64],
+    policies: &mut [u8; 64],
+    slices: &mut [u8; 64],
+    t: u8,
+)
+    requires { (t < 64) × Regular (columns exists.old ready.old partitions.old priorities.old masks.old policies.old slices.old) }
+    ensures { ThreadStored
+        (columns exists.old ready.old partitions.old priorities.old masks.old policies.old slices.old)
+        (columns exists.new ready.new partitions.new priorities.new masks.new policies.new slices.new)
+        t absent }
 {
-    store(state, t, ABSENT);
+    store(
+        exists, ready, partitions, priorities, masks, policies, slices, t, ABSENT,
+    );
 }
 
 // The thread joins the queue at its tail, and is ready, with a full slice.
@@ -142,45 +191,46 @@ fn set_priority(
 }
 
 // What the event's kind does; a tick and a resume do nothing here. The answer is how many threads are queued.
-pub fn act(state: &mut StateMut<'_>, queued: u32, event: Event) -> u32
-    requires { Able (columns_in state.old) state.old.queue.now queued (bytes_of event) }
-    ensures loan { SameLoan state.old state.new }
+pub fn act(
+    exists: &mut [u8; 64],
+    ready: &mut [u8; 64],
+    partitions: &mut [u8; 64],
+    priorities: &mut [u8; 64],
+    masks: &mut [u8; 64],
+    policies: &mut [u8; 64],
+    slices: &mut [u8; 64],
+    queue: &mut [u8; 64],
+    queued: u32,
+    event: Event,
+) -> u32
+    requires { Able
+        (columns exists.old ready.old partitions.old priorities.old masks.old policies.old slices.old)
+        queue.old queued (bytes_of event) }
     ensures acted { Acted
-        (tables_in (columns_in state.old) state.old.queue.now queued)
-        (tables_in (columns_in state.new) state.new.queue.now result)
+        (tables_in (columns exists.old ready.old partitions.old priorities.old masks.old policies.old slices.old) queue.old queued)
+        (tables_in (columns exists.new ready.new partitions.new priorities.new masks.new policies.new slices.new) queue.new result)
         (bytes_of event) }
-    ensures regular { Regular (columns_in state.new) }
-    ensures rest { (state.new.used.now ≡ state.old.used.now) × (state.new.history.now ≡ state.old.history.now) }
+    ensures regular { Regular (columns exists.new ready.new partitions.new priorities.new masks.new policies.new slices.new) }
 {
     let t = event.thread;
     match event.action {
         Action::Create => {
-            create(state, event);
-            queued
-        }
-        Action::Ready => join(
-            state.ready,
-            state.policies,
-            state.slices,
-            state.queue,
-            queued,
-            t,
-        ),
-        Action::Block => block(state.ready, state.queue, queued, t),
-        Action::SetPriority => {
-            set_priority(
-                state.ready,
-                state.priorities,
-                state.queue,
-                queued,
-                t,
-                event.priority,
+            create(
+                exists, ready, partitions, priorities, masks, policies, slices, event,
             );
             queued
         }
+        Action::Ready => join(ready, policies, slices, queue, queued, t),
+        Action::Block => block(ready, queue, queued, t),
+        Action::SetPriority => {
+            set_priority(ready, priorities, queue, queued, t, event.priority);
+            queued
+        }
         Action::End => {
-            forget(state, t);
-            queue::leave(state.queue, queued, t)
+            forget(
+                exists, ready, partitions, priorities, masks, policies, slices, t,
+            );
+            queue::leave(queue, queued, t)
         }
         Action::Unknown | Action::Tick | Action::Resume => queued,
     }

@@ -41,7 +41,8 @@ fn find(entries: &[u8; 64], n: usize, t: u8) -> Option<usize>
 }
 
 // The place of thread t, one of the first n entries, looked for from the last one on: there stands a thread that was raised, or became ready, not
-// long ago.
+// long ago. It is never inline: in the loop of a run the compiler would read t, and where the entries lie, from the stack at each step.
+#[inline(never)]
 #[tactic(auto, using(crate::proofs::Searches::stands))]
 fn find_last(entries: &[u8; 64], n: usize, t: u8) -> usize
     requires { (n ≤ 64) × (member t (take n entries.now) ≡ true) }

@@ -15,12 +15,12 @@ pub loop-p-preserved : goal.loop-p-preserved
 loop-p-preserved c =
     let a = c.args in
     let turn = c.loop-p in
-    none_past turn.p a.settings.count (share a.settings turn.p) (get_or a.used.now turn.p 0) turn.bits _ c.past-bits.ensures
-    ∙ rw turn.invariant (all_next (none a.settings a.used.now) turn.p)
+    none_past turn.p a.settings.now.count (share a.settings.now turn.p) (get_or a.used.now turn.p 0) turn.bits _ c.past-bits.ensures
+    ∙ rw turn.invariant (all_next (none a.settings.now a.used.now) turn.p)
 
 pub returns : goal.returns
 unfolding rest_zero
 returns c =
     let a = c.args in
     let e : c.loop-p.p ≡ 16 = omega arith in
-    c.loop-p.invariant ∙ ap (λ (i : ℕ). all (none a.settings a.used.now) (below i)) e
+    c.loop-p.invariant ∙ ap (λ (i : ℕ). all (none a.settings.now a.used.now) (below i)) e

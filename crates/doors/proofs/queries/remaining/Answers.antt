@@ -6,7 +6,8 @@ use mir.Facts.{to_z-of_z}
 use native.Mathlib.Omega.{arith}
 use lib.ListN.{get_or}
 use Rattle.std.proofs.lemmas.Result.{err_from_is_err_and}
-use Rattle.std.specs.Prelude.{Result, Ok, Err}
+use Rattle.std.specs.Prelude.{Result, Ok, Err, ⊤}
+use Rattle.refusals.specs.Refusals.{outcome_of}
 use Rattle.refusals.specs.declared.Refusal.{Refusal}
 use Rattle.sheet.specs.Settings.{Limits}
 use Rattle.sheet.specs.declared.Settings.{Settings}
@@ -16,61 +17,68 @@ use Rattle.model.specs.Answers.{remainder_of}
 use Rattle.model.specs.Lent.{Lent, lent_settings, refused_in}
 use Rattle.doors.specs.Doors.{lent_seen}
 use Rattle.doors.specs.declared.opening.Opened.{Opened}
-use Rattle.doors.proofs.Lending.{refused, taken}
+use Rattle.doors.specs.Inner.{OpenedFrom}
+use Rattle.doors.proofs.Lending.{opened_seen, refused, taken}
 use Rattle.doors.proofs.Looking.{limits, used_low, remaining_no, remaining_place, remaining_yes}
 use Rattle.doors.proofs.queries.remaining.Goals as goal
-use Rattle.doors.proofs.queries.remaining.Goals.{After-open}
+use Rattle.doors.proofs.queries.remaining.Goals.{After-test}
 
 -- what was lent
-abbrev given : After-open → Lent
+abbrev given : After-test → Lent
 given c = lent_seen c.args.settings.now c.args.shares.now c.args.clock.now c.args.state
 
--- it was opened, and is not refused
-module _ (c : After-open) (i : Opened) (e : c.open.result ≡ Ok i) where
+opened : (c : After-test) → OpenedFrom (given c) c.read-opened.result (outcome_of c.test.result)
+opened c = let a = c.args in opened_seen a.settings.now a.shares.now a.clock.now a.state c.read-opened.result (outcome_of c.test.result) c.read-opened.ensures c.test.ensures
+
+-- it was tested, and is not refused
+module _ (c : After-test) {t : ⊤} (e : c.test.result ≡ Ok t) where
+  abbrev i : Opened
+  i = c.read-opened.result
+
   read : i.settings ≡ lent_settings (given c)
-  read = ap (λ (o : Opened). o.settings) (c.open.ensures.opened i e)
+  read = ap (λ (o : Opened). o.settings) (opened c).opened
 
   fine : refused_in (given c) ≡ 0
-  fine = taken (given c) c.open.result i c.open.ensures e
+  fine = taken (given c) c.test.result (opened c) e
 
   -- the settings of a state that is not refused are within their limits
   within : Limits i.settings
   within = limits (given c) i.settings read fine
 
-pub returns-in_err-settings : goal.returns-in_err-settings
-returns-in_err-settings c =
-    let t = (goal.at.returns-in_err-settings c).After-open in
+pub returns-in_err-test : goal.returns-in_err-test
+returns-in_err-test c =
+    let t = (goal.at.returns-in_err-test c).After-test in
     let (r, e, q) = err_from_is_err_and c.from_residual.result c.from_residual.ensures.1 in
     ap remainder_of (e ∙ ap Err q)
-    ∙ remaining_no (given t) c.args.partition c.in_err-settings.field-0.0 (refused (given t) t.open.result c.in_err-settings.field-0.0 t.open.ensures c.in_err-settings.was)
+    ∙ remaining_no (given t) c.args.partition c.in_err-test.field-0.0 (refused (given t) t.test.result c.in_err-test.field-0.0 (opened t) c.in_err-test.was)
 
 pub returns-then-settings-partition : goal.returns-then-settings-partition
 returns-then-settings-partition c =
-    let t = (goal.at.returns-then-settings-partition c).After-open in
-    let i = c.in_ok-settings.field-0 in
-    remaining_place (given t) i.settings (read t i c.in_ok-settings.was) (fine t i c.in_ok-settings.was) c.args.partition c.if-settings-partition.true
+    let t = (goal.at.returns-then-settings-partition c).After-test in
+    let i = t.read-opened.result in
+    remaining_place (given t) i.settings (read t c.in_ok-test.was) (fine t c.in_ok-test.was) c.args.partition c.if-settings-partition.true
 
 pub bounds-settings-p : goal.bounds-settings-p
 bounds-settings-p c =
-    let l = within (goal.at.bounds-settings-p c).After-open c.in_ok-settings.field-0 c.in_ok-settings.was in
+    let l = within (goal.at.bounds-settings-p c).After-test c.in_ok-test.was in
     omega (arith, l.count_high)
 
 pub budget-budget-requires : goal.budget-budget-requires
 budget-budget-requires c =
-    let l = within (goal.at.budget-budget-requires c).After-open c.in_ok-settings.field-0 c.in_ok-settings.was in
-    (share_most c.in_ok-settings.field-0.settings l c.args.partition c.if-settings-partition.false, l.window_high, l.tick_high, l.whole)
+    let l = within (goal.at.budget-budget-requires c).After-test c.in_ok-test.was in
+    (share_most c.read-opened.result.settings l c.args.partition c.if-settings-partition.false, l.window_high, l.tick_high, l.whole)
 
 pub bounds-state-p : goal.bounds-state-p
 bounds-state-p c =
-    let l = within (goal.at.bounds-state-p c).After-open c.in_ok-settings.field-0 c.in_ok-settings.was in
+    let l = within (goal.at.bounds-state-p c).After-test c.in_ok-test.was in
     omega (arith, l.count_high)
 
 pub returns : goal.returns
 returns c =
-    let t = (goal.at.returns c).After-open in
-    let i = c.in_ok-settings.field-0 in
-    let e = read t i c.in_ok-settings.was in
-    let z = fine t i c.in_ok-settings.was in
+    let t = (goal.at.returns c).After-test in
+    let i = t.read-opened.result in
+    let e = read t c.in_ok-test.was in
+    let z = fine t c.in_ok-test.was in
     let whole = c.budget-budget in
     let p = c.args.partition in
     let total = get_or c.args.state.used.now p 0 in

@@ -6,14 +6,14 @@ use native.Mathlib.Omega.{arith}
 use lib.ListN.{take}
 use Rattle.model.specs.State.{State}
 use Rattle.model.specs.Event.{kind_of, thread_of, priority_of}
-use Rattle.model.specs.Arrays.{Columns, columns_in, with_ready_column, with_priority_column, threads_in, Tables, tables_in, with_tables}
+use Rattle.model.specs.Arrays.{Columns, columns, with_ready_column, with_priority_column, threads_in, Tables, tables_in, with_tables}
 use Rattle.model.proofs.Table.{ready_put, priority_put}
 use Rattle.event.specs.declared.kinds.Action.{Action}
 use Rattle.event.specs.declared.kinds.Action.TheVariants.{Ready, Block, SetPriority}
 use Rattle.event.specs.Kinds.{kind_number}
 use Rattle.event.specs.Bytes.{bytes_of}
 use Rattle.threads.specs.Entries.{queue_from}
-use Rattle.threads.proofs.ActionsLaws.{act_none, acted_create, acted_ready, acted_block, acted_priority, acted_end, place_of, regular_ready, regular_priority, joined, regular_joined}
+use Rattle.threads.proofs.ActionsLaws.{act_none, acted_create, acted_ready, acted_block, acted_priority, acted_end, place_of, regular_ready, joined, regular_joined}
 use mathlib.Core.Logic.{◌⊎◌}
 use borrow.Author.Rules.{rules}
 use Rattle.threads.proofs.actions.act.Goals as goal
@@ -23,10 +23,10 @@ abbrev bytes : Start → List ℕ
 bytes c = bytes_of c.args.event
 
 abbrev threads : Start → Columns
-threads c = columns_in c.args.state.now
+threads c = let a = c.args in columns a.exists.now a.ready.now a.partitions.now a.priorities.now a.masks.now a.policies.now a.slices.now
 
 abbrev old : Start → Tables
-old c = tables_in (threads c) c.args.state.now.queue.now c.args.queued
+old c = tables_in (threads c) c.args.queue.now c.args.queued
 
 -- what is asked of the thread, where the action is told
 inside : (c : Start) (a : Action) → c.args.event.action ≡ a → 2 ≤ kind_number a → kind_number a ≤ 6 → thread_of (bytes c) < 64
@@ -35,7 +35,7 @@ inside c a t lo hi = let k : kind_of (bytes c) ≡ kind_number a = ap kind_numbe
 pub returns-in-Create-clause-acted : goal.returns-in-Create-clause-acted
 returns-in-Create-clause-acted c =
     let at = (goal.at.returns-in-Create-clause-acted c).Start in
-    rw c.create.ensures.queue (acted_create (old at) (bytes at) _ (ap kind_number c.in-Create.is) c.create.ensures.threads)
+    acted_create (old at) (bytes at) _ (ap kind_number c.in-Create.is) c.create.ensures.threads
 
 pub returns-in-Ready-clause-acted : goal.returns-in-Ready-clause-acted
 returns-in-Ready-clause-acted c =
@@ -73,7 +73,7 @@ returns-in-SetPriority-clause-acted c =
     let t = c.in-SetPriority.is in
     let low = inside at SetPriority t (omega arith) (omega arith) in
     let e = c.set_priority.ensures in
-    let line = take at.args.queued at.args.state.now.queue.now in
+    let line = take at.args.queued at.args.queue.now in
     let records = ap (λ (l : List ℕ). threads_in (with_priority_column (threads at) l)) e.0
     ∙ priority_put (threads at) at.requires.sizes (thread_of (bytes at)) low (priority_of (bytes at)) in
     let place = place_of (threads at) (thread_of (bytes at)) (priority_of (bytes at)) line low in
@@ -82,7 +82,7 @@ returns-in-SetPriority-clause-acted c =
 pub returns-in-End-clause-acted : goal.returns-in-End-clause-acted
 returns-in-End-clause-acted c =
     let at = (goal.at.returns-in-End-clause-acted c).Start in
-    acted_end (old at) (bytes at) _ _ c.leave.result (ap kind_number c.in-End.is) c.forget.ensures.threads (rw c.forget.ensures.queue at c.leave.ensures)
+    acted_end (old at) (bytes at) _ _ c.leave.result (ap kind_number c.in-End.is) c.forget.ensures.threads c.leave.ensures
 
 pub returns-in-Unknown-clause-acted : goal.returns-in-Unknown-clause-acted
 returns-in-Unknown-clause-acted c =

@@ -9,9 +9,9 @@ unfolding need
 returns c =
     let a = c.args in
     let x = c.build.new.self in
-    let weighed = c.weigh_all-cache in
+    let weighed = c.weigh_all-self in
     record {
-      priced = rw (c.build.ensures.rest.budgets, c.build.ensures.rest.paying) c.price-cache.ensures;
+      priced = rw (c.build.ensures.rest.budgets, c.build.ensures.rest.paying) c.price-self.ensures;
       led = c.build.ensures.kept;
       weighed = subst (λ (n : ℕ). WeighedIn a.used.now x.budgets n a.settings.count weighed.result) c.need-need.ensures weighed.ensures;
     }

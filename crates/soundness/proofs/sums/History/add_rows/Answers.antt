@@ -13,11 +13,11 @@ pub loop-p-init : goal.loop-p-init
 unfolding all below
 loop-p-init c =
     let a = c.args in
-    let slots = λ (i : ℕ). slot_in a.self.numbers.now a.self.window 0 (a.from + i) in
+    let slots = λ (i : ℕ). slot_in a.self.numbers.now a.self.window.0 0 (a.from + i) in
     record {
       narrow = refl;
       slots = subst (λ (l : List ℕ). Added slots l l a.size) (sym c.requires.1) (added_zeros slots 100 a.size c.requires.0.small (λ i. refl));
-      totals = added_none (held a.self.numbers.now a.self.window a.from a.size) a.rows.now;
+      totals = added_none (held a.self.numbers.now a.self.window.0 a.from a.size) a.rows.now;
     }
 
 -- one that fails
@@ -32,7 +32,7 @@ pub returns-in_default : goal.returns-in_default
 returns-in_default c =
     let a = c.args in
     record {
-      fine = fails (small a.self.numbers.now a.self.window a.from a.size) a.self.count c.loop-p.p c.loop-p-test.true (rw c.part.ensures at c.in_default.ensures.told);
+      fine = fails (small a.self.numbers.now a.self.window.0 a.from a.size) a.self.count c.loop-p.p c.loop-p-test.true (rw c.part.ensures at c.in_default.ensures.told);
       slots = λ e. clash e refl;
       totals = λ e. clash e refl;
     }
@@ -42,7 +42,7 @@ loop-p-preserved c =
     let turn = c.loop-p in
     let a = c.args in
     let h = a.self.numbers.now in
-    let w = a.self.window in
+    let w = a.self.window.0 in
     let fits = c.requires.0 in
     let part = c.part.ensures in
     let sum = c.in-Some.ensures.told in

@@ -14,7 +14,7 @@ held h w a k p = Lists.sum (part_in h w a k p)
 abbrev pub invariant-loop-p : goal.invariant-loop-p
 invariant-loop-p l =
     let h = l.self.numbers.now in
-    let w = l.self.window in
+    let w = l.self.window.0 in
     record {
       narrow : all (small h w l.from l.size) (below l.p) ≡ true;
       slots : Added (λ i. slot_in h w l.p (l.from + i)) l.initial.sums l.sums l.size;

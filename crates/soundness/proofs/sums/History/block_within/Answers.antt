@@ -9,7 +9,7 @@ returns-clause-within c =
     let rows = c.add_rows-narrow in
     let a = c.args in
     let fits = c.requires.0 in
-    block_exact a.self.numbers.now a.self.window a.self.count (rows_in a.self) a.from a.size fits.ends a.most.0 c.requires.1 fits.small
+    block_exact a.self.numbers.now a.self.window.0 a.self.count (rows_in a.self) a.from a.size fits.ends a.most.0 c.requires.1 fits.small
     rows.new.sums _ _ rows.ensures.slots rows.ensures.fine c.slots_within.ensures
 
 pub returns-clause-rows : goal.returns-clause-rows

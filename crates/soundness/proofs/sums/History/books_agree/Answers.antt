@@ -11,19 +11,19 @@ pub returns-then-self-slot : goal.returns-then-self-slot
 returns-then-self-slot c =
     let a = c.args in
     let x = a.self in
-    slot_outside x.numbers.now a.totals.now x.window x.count a.slot.0 a.most.0 a.current.0 c.if-self-slot.true
+    slot_outside x.numbers.now a.totals.now x.window.0 x.count a.slot.0 a.most.0 a.current.0 c.if-self-slot.true
 
 pub loop-from-init : goal.loop-from-init
 unfolding all below
 loop-from-init c =
     let x = c.args.self in
-    record { inside = omega arith; within = refl; rows = rows_none x.numbers.now x.window x.count x.few }
+    record { inside = omega arith; within = refl; rows = rows_none x.numbers.now x.window.0 x.count x.few }
 
 pub returns-then-not-block_within : goal.returns-then-not-block_within
 returns-then-not-block_within c =
     let a = c.args in
     let x = a.self in
-    block_high x.numbers.now a.totals.now x.window x.count a.slot.0 a.most.0 a.current.0 c.loop-from.from c.min-size.result (omega (arith, c.min-size.ensures))
+    block_high x.numbers.now a.totals.now x.window.0 x.count a.slot.0 a.most.0 a.current.0 c.loop-from.from c.min-size.result (omega (arith, c.min-size.ensures))
     (sym c.block_within.ensures.within ∙ c.if-not-block_within.true)
 
 -- a block of k slots more, which ends at place b
@@ -38,7 +38,7 @@ loop-from-preserved c =
     let x = c.args.self in
     let turn = c.loop-from in
     let block = c.block_within in
-    let next = more x.numbers.now x.window x.count c.args.most.0 turn.from c.min-size.result (turn.from + 100) (omega arith) turn.rows block.new.rows
+    let next = more x.numbers.now x.window.0 x.count c.args.most.0 turn.from c.min-size.result (turn.from + 100) (omega arith) turn.rows block.new.rows
     block.result turn.invariant.within turn.invariant.rows block.ensures.within block.ensures.rows c.if-not-block_within.false in
     record { inside = omega arith; within = next.0; rows = next.1 }
 
@@ -47,17 +47,17 @@ returns c =
     let a = c.args in
     let x = a.self in
     let h = x.numbers.now in
-    let done : (slots_within h x.window x.count a.most.0 ≡ true) × Added (rows_to h x.window x.window) (replicate 16 0) c.loop-from-test.rows x.count =
+    let done : (slots_within h x.window.0 x.count a.most.0 ≡ true) × Added (rows_to h x.window.0 x.window.0) (replicate 16 0) c.loop-from-test.rows x.count =
     elim c.loop-from-test.branch [
       | else-loop-from-test w ↦
           let turn = c.loop-from in
-          let e : turn.from ≡ x.window = omega (arith, w.loop-from-test.false) in
+          let e : turn.from ≡ x.window.0 = omega (arith, w.loop-from-test.false) in
           rw w.rows-is (rw e at turn.invariant.within, rw e at turn.invariant.rows)
       | then-loop-from-test+else-not-block_within+else-from-end-from-gt100 w ↦
           let turn = c.loop-from in
           let block = w.block_within in
-          rw w.rows-is (more h x.window x.count a.most.0 turn.from w.min-size.result x.window (omega arith) turn.rows block.new.rows
+          rw w.rows-is (more h x.window.0 x.count a.most.0 turn.from w.min-size.result x.window.0 (omega arith) turn.rows block.new.rows
           block.result turn.invariant.within turn.invariant.rows block.ensures.within block.ensures.rows w.if-not-block_within.false)
     ] in
-    books_parts h x.window x.count a.most.0 (rows_in x) c.requires done.0 a.totals.now c.loop-from-test.rows a.slot.0 a.current.0 c.slot_sum.result _
+    books_parts h x.window.0 x.count a.most.0 (rows_in x) c.requires done.0 a.totals.now c.loop-from-test.rows a.slot.0 a.current.0 c.slot_sum.result _
     c.if-self-slot.false done.1 (omega arith) c.eq.ensures c.slot_sum.ensures

@@ -11,7 +11,7 @@ fits h w n most k = leb (slot_in h w n k) most
 abbrev pub invariant-loop-from : goal.invariant-loop-from
 invariant-loop-from l =
     let h = l.self.numbers.now in
-    let w = l.self.window in
+    let w = l.self.window.0 in
     let n = l.self.count in
     record {
       inside : l.from ≤ w;

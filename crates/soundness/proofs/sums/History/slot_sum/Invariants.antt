@@ -4,4 +4,4 @@ use Rattle.soundness.specs.Sums.{slot_in}
 use Rattle.soundness.proofs.sums.History.slot_sum.Given as goal
 
 abbrev pub invariant-loop-p : goal.invariant-loop-p
-invariant-loop-p l = l.sum ≡ slot_in l.self.numbers.now l.self.window l.p l.slot % 2 ^ 32
+invariant-loop-p l = l.sum ≡ slot_in l.self.numbers.now l.self.window.0 l.p l.slot % 2 ^ 32
